@@ -12,14 +12,15 @@ _cudf_check()
     word=${word##*[[:blank:]]}
     if ((COMP_CWORD == 1)); then
         command=
-    elif [[ $3 == --after || $3 == --limit ]]; then
+    elif [[ $3 == --after || $3 == --limit || $3 == --better-than ]]; then
         word=$3=
     fi
     case $command:$word in
         :-*) offered=(-h --help -V --version) ;;
         :*) offered=(lint check score rank cnf refute help) ;;
         help:*) ((COMP_CWORD > 2)) || offered=(lint check score rank cnf refute help) ;;
-        score:--criteria=* | rank:--criteria=*)
+        cnf:--better-than=* | refute:--better-than=*) return ;;
+        score:--criteria=* | rank:--criteria=* | cnf:--criteria=* | refute:--criteria=*)
             list=${word#*=}
             list=${list%"${list##*,}"}
             for name in removed new changed notuptodate unsat_recommends touched; do
@@ -28,10 +29,10 @@ _cudf_check()
             ;;
         *:--*=*) ;;
         lint:-*) offered=(--strict --explain -H --with-filename -h --help) ;;
-        refute:-*) offered=(--strict --explain -h --help) ;;
+        refute:-*) offered=(--better-than= --criteria= --strict --explain -h --help) ;;
         check:-*) offered=(--after --limit --strict --explain -H --with-filename -h --help) ;;
         score:-* | rank:-*) offered=(--criteria= --strict -H --with-filename -h --help) ;;
-        cnf:-*) offered=(--strict -h --help) ;;
+        cnf:-*) offered=(--better-than= --criteria= --strict -h --help) ;;
         *) return ;;
     esac
     # there stands no file
@@ -41,8 +42,8 @@ _cudf_check()
             COMPREPLY+=("${each#"${word%"$2"}"}")
         fi
     done
-    # a list goes on in the same word
-    if [[ $word == --criteria=* || ${COMPREPLY[*]} == --criteria= ]]; then
+    # a value goes on in the same word
+    if [[ $word == --criteria=* || ${COMPREPLY[*]} == --*= ]]; then
         compopt -o nospace
     fi
 }

@@ -10,7 +10,8 @@
  *     2  a document is malformed
  *     3  the answer says FAIL; rank: all do
  *     4  the words ask for nothing: the text says why
- *     5  a document is longer than 256 MiB (268435456 bytes); cnf and refute: the CNF has more than 4294967295 clauses
+ *     5  a document is longer than 256 MiB (268435456 bytes); cnf and refute: the CNF has more than 4294967295 clauses or
+ *        2147483647 variables
  *     6  out of memory
  *
  * Status 4 comes before 5. That a document is too long is known by its length, before a byte of any is read; that a CNF is
@@ -74,7 +75,8 @@ typedef struct cudf_check_document {
 /*
  * Does what the program does for these words of its command line, in UTF-8, such as `check`, `--explain`, `--limit=3`. The
  * words don't name files: the documents stand in their place, in their order, the problem first. So `check` takes a problem
- * and a solution, or one document that holds both; `rank`, which needs `--criteria=LIST`, a problem and all solutions.
+ * and a solution, or one document that holds both; `rank`, which needs `--criteria=LIST`, a problem and all solutions. One
+ * word can name a file: for that of `--better-than=NAME` the last document stands, whatever the name.
  */
 uint8_t cudf_check_run(const cudf_check_text *words, size_t word_count, const cudf_check_document *documents,
                        size_t document_count, uint8_t *text, size_t room, size_t *length);

@@ -9,8 +9,8 @@ The headline is the contract of `run`, a public function of the crate `cudf_chec
   the same of the types of its fields;
 - the files that the `use` lines of these files name, and so on.
 
-The program has to call `run`. No other public function of `cudf_check` may write but `rank`, whose contract is a
-promise of its own; what `cudf_device` has to write with, the program may not use. Only the two functions of `Steps` that set a count have a proof written by hand: with a further one
+The program has to call `run`. No other public function of `cudf_check` may write; what `cudf_device` has to write with,
+the program may not use. Only the two functions of `Steps` that set a count have a proof written by hand: with a further one
 a count could be set back. The standard library and the crates from outside are believed as they are.
 
 Of these files a command needs the definitions that the contracts name, and those that these name: of equations by the
@@ -38,11 +38,11 @@ LIBRARIES = [line.split(":") for line in (ROOT / "crates.txt").read_text().split
 ORDER = [crate.split()[0] for crate, _ in LIBRARIES]
 OUTSIDE = {"std", "core"}.union(*(below.split() for _, below in LIBRARIES)).difference(ORDER)
 
-# the function that carries the headline, the one for several solutions, and the laws with the commands that need them
-ENTRY, RANKING = "run", "rank"
+# the function that carries the headline, and the laws with the commands that need them
+ENTRY = "run"
 LAWS = {"ascending": {"check", "all"}, "empty": {"check", "refute", "all"}}
 # what isn't followed: exact texts, and without `--explain` and `-H` the style that these ask for, by a law of cudf_check
-TEXTS, STYLE, PLAIN = {"cnf_answer", "refute_answer"}, "style_of", "plain"
+TEXTS, STYLE, PLAIN = {"cnf_answer", "cnf_better", "refute_answer", "refute_better"}, "style_of", "plain"
 # and what a text means, of commands of which the headline says the text
 MEANINGS, MEANT = {"Means", "HasWritten"}, {"cnf", "refute", "all"}
 PROOFS_BY_HAND = {f"crates/cudf_index/proofs/steps/mark/Mark/{name}/Proof.antt" for name in ("grow", "new")}
@@ -67,9 +67,10 @@ OWN = r"^impl(?:<[^{]*?>)? %s\b[^{]*\{"
 HEAD = re.compile(r"(?:(?:pub|abbrev|unfoldable|opaque|data|record)\s+)+([^\s:(){}]+)")
 CONSTRUCTOR = re.compile(r"  (\S+) :")
 WORD = re.compile(r"[^\s(){}\[\];,]+")
-# the job of each command
+# the jobs of each command
 JOBS = "cudf_job.specs.declared.job.Job.TheVariants"
-COMMANDS = {"lint": {"Lint"}, "check": {"Check"}, "score": {"Score"}, "cnf": {"Cnf"}, "refute": {"Refute"}}
+COMMANDS = {"lint": {"Lint"}, "check": {"Check"}, "score": {"Score"}, "rank": {"Rank"}, "cnf": {"Cnf", "CnfBetter"},
+            "refute": {"Refute", "RefuteBetter"}}
 COMMANDS["all"] = set().union(*COMMANDS.values())
 # names that every file has without a `use`
 PRELUDE = set("Self Option Some None Result Ok Err Vec Box String Copy Clone Drop Fn FnMut FnOnce Sized Send Sync "
@@ -160,17 +161,17 @@ def contract_of(crate, name):
 
 
 def check_entry():
-    """No other public function of cudf_check but `run` and `rank` takes something to write to."""
+    """No other public function of cudf_check but `run` takes something to write to."""
     for path in sources("cudf_check"):
         for begin in re.finditer(r"^( *)pub fn (\w+)", code_of(path), re.M):
             indent, name = begin.groups()
             writes = re.search(r"\b(?:Sink|Write)\b", contract_at(code_of(path), begin.start()))
-            if writes and (indent or name not in (ENTRY, RANKING)):
+            if writes and (indent or name != ENTRY):
                 raise Fault(1, f"`{name}` of {path.relative_to(ROOT)} writes beside `{ENTRY}`")
 
 
 def check_program():
-    """The program calls `run`, no other function of cudf_check but `rank`, and nothing of cudf_device, which writes too."""
+    """The program calls `run`, no other function of cudf_check, and nothing of cudf_device, which writes too."""
     called = False
     for path in sources("cudf_program"):
         _, items, rest = uses_in(path)
@@ -178,7 +179,7 @@ def check_program():
         names |= {item: item for item in re.findall(r"\bcudf_(?:check|device)(?:::\w+)+", rest)}
         for name, item in names.items():
             is_type = item.startswith("cudf_check::") and not item.islower()
-            if not is_type and item not in (f"cudf_check::{ENTRY}", f"cudf_check::{RANKING}"):
+            if not is_type and item != f"cudf_check::{ENTRY}":
                 raise Fault(1, f"the program uses `{item}`, which doesn't carry the headline")
             is_call = re.search(rf"(?<![\w.:]){name}\s*(?:::\s*<|\()", rest)
             called = called or item == f"cudf_check::{ENTRY}" and is_call is not None

@@ -12,7 +12,7 @@ COPIED = ("crates/*/src/**/*.rt", "crates/*/specs/**/*.antt", "crates/*/proofs/*
 BY_HAND = (ROOT / "crates/cudf_index/proofs/steps/mark/Mark/new/Proof.antt").read_text()
 LIB = (ROOT / "crates/cudf_check/src/lib.rt").read_text()
 # `run` without its name, up to what comes after it
-ENTRY = LIB.partition("pub fn run<")[2].partition("/// Reads `problem` to its end,")[0]
+ENTRY = LIB.partition("pub fn run<")[2].partition("/// What a source gave,")[0]
 
 
 def rows():

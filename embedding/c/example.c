@@ -1,6 +1,7 @@
 /*
  * cudf_check from C99: checks an answer and a malformed problem, both explained; counts and ranks;
- * makes a CNF and checks a proof that it has no model; goes through a report by pages. Prints embedding/expected.txt.
+ * makes a CNF, and checks proofs that there is no solution, or no better one; goes through a report by pages. Prints
+ * embedding/expected.txt.
  *
  *     cc -std=c99 -Iinclude embedding/c/example.c lib/libcudf_check.a -o example
  */
@@ -138,6 +139,8 @@ int main(void)
     print("rank", LIST("rank", "--criteria=-changed,-touched"), LIST(problem, old_wheel, both_wheels, new_wheel));
     print("cnf", LIST("cnf"), LIST(unsolvable));
     print("refute", LIST("refute"), LIST(unsolvable, proof));
+    /* an answer that removes nothing can't be bettered: the proof isn't needed */
+    print("better", LIST("refute", "--better-than=answer", "--criteria=-removed"), LIST(problem, "", new_wheel));
 
     char *many = broken(PACKAGES);
     int pages;

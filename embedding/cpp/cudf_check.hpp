@@ -41,7 +41,8 @@ struct Document {
     Document(const std::string &text) : text(text) {}
 };
 
-// Does what the program does for these words, with the documents in place of its files. Doesn't throw: if there is no
+// Does what the program does for these words, with the documents in place of its files, the last one in place of that of
+// --better-than=NAME, if that is one of the words. Doesn't throw: if there is no
 // memory for the report, the status is Status::memory, as if the library had none.
 inline Answer run(const std::vector<std::string_view> &words, const std::vector<Document> &documents) noexcept
 try {

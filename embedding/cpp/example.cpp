@@ -1,5 +1,6 @@
 // cudf_check from C++17: checks an answer and a malformed problem, both explained; counts and ranks;
-// makes a CNF and checks a proof that it has no model; goes through a report by pages. Prints embedding/expected.txt.
+// makes a CNF, and checks proofs that there is no solution, or no better one; goes through a report by pages. Prints
+// embedding/expected.txt.
 //
 //     c++ -std=c++17 -Iinclude embedding/cpp/example.cpp lib/libcudf_check.a -o example
 #include "cudf_check.hpp"
@@ -135,6 +136,9 @@ int main()
     print("rank", cudf_check::run({"rank", "--criteria=-changed,-touched"}, {problem, old_wheel, both_wheels, new_wheel}));
     print("cnf", cudf_check::run({"cnf"}, {unsolvable}));
     print("refute", cudf_check::run({"refute"}, {unsolvable, proof}));
+    // an answer that removes nothing can't be bettered: the proof isn't needed
+    print("better",
+          cudf_check::run({"refute", "--better-than=answer", "--criteria=-removed"}, {problem, std::string(), new_wheel}));
 
     const std::string many = broken(packages);
     const auto [together, pages] = by_pages(many);

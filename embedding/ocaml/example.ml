@@ -1,5 +1,6 @@
 (* cudf_check from OCaml: checks an answer and a malformed problem, both explained; counts and ranks;
-   makes a CNF and checks a proof that it has no model; goes through a report by pages. Prints embedding/expected.txt.
+   makes a CNF, and checks proofs that there is no solution, or no better one; goes through a report by pages. Prints
+   embedding/expected.txt.
 
    In embedding/ocaml, or a copy of it, by dune, where header and library are installed, or by the compiler alone:
 
@@ -94,6 +95,9 @@ let () =
     (Cudf_check.run [ "rank"; "--criteria=-changed,-touched" ] [ problem; old_wheel; both_wheels; new_wheel ]);
   print "cnf" (Cudf_check.run [ "cnf" ] [ unsolvable ]);
   print "refute" (Cudf_check.run [ "refute" ] [ unsolvable; proof ]);
+  (* an answer that removes nothing can't be bettered: the proof isn't needed *)
+  print "better"
+    (Cudf_check.run [ "refute"; "--better-than=answer"; "--criteria=-removed" ] [ problem; ""; new_wheel ]);
   let many = broken packages in
   let pages = pages_of many in
   let is_same = List.concat pages = lines_of (Cudf_check.run [ "check" ] [ many; many ]).report in

@@ -1,6 +1,6 @@
 #!/usr/bin/env python3
 """cudf_check from Python: checks an answer and a malformed problem, both explained; counts and ranks;
-makes a CNF and checks a proof that it has no model; goes through a report by pages.
+makes a CNF, and checks proofs that there is no solution, or no better one; goes through a report by pages.
 
 Prints embedding/expected.txt.
 
@@ -79,6 +79,14 @@ def refute():
         print(f"{told.key} {package}line {told.line}: {told.text}")
     if refuted.status == cudf_check.Status.YES:
         print("no solution exists")
+
+    # an answer that removes nothing can't be bettered: the proof isn't needed
+    refuted = cudf_check.refute(PROBLEM, "", better_than=NEW_WHEEL, criteria="-removed")
+    print(f"\nbetter: status {refuted.status:d}")
+    for aim, count in refuted.counts:
+        print(aim, count)
+    if refuted.status == cudf_check.Status.YES:
+        print("no better solution exists")
 
 
 def main():

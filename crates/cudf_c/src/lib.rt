@@ -7,7 +7,7 @@ ghost use Rattle.cudf_calls.specs.Calls.{Runs, left};
 use cudf_calls::{Input, Text};
 use std::alloc::Global;
 
-/// [`cudf_calls::run`] for C.
+/// [`cudf_calls::run`] for C. The last document stands for the file of `--better-than=NAME`, where that is one of the words.
 #[unsafe(no_mangle)]
 pub extern "C" fn cudf_check_run(
     alloc: Global,

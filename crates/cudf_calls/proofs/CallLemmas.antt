@@ -1,7 +1,9 @@
 -- What a call answers: of words that ask for no order, and of a report that was written, or wasn't.
-use Rattle.std.proofs.Common.{◌≡◌, ◌⊎◌, inl, inr, ◌∙◌, ◌++◌, ℕ, List, [], ◌∷◌, length, take, drop, codes, refl, sym, ap, subst, arith, vec_len, String, Global}
-use Rattle.std.specs.List.{All}
+use Rattle.std.proofs.Common.{◌≡◌, ◌⊎◌, inl, inr, ◌∙◌, ◌++◌, ◌-◌, ℕ, Bool, true, false, if◌then◌else◌, List, [], ◌∷◌, length, map, take, drop, codes, string_bytes, refl, sym, ap, subst, arith, vec_len, String, Global}
+use Rattle.std.proofs.lemmas.List.{length-map, take-map}
+use Rattle.std.specs.List.{All, list_any}
 use Rattle.std.specs.Str.{IsUtf8}
+use Rattle.cudf_check.specs.JobReport.{report}
 use Rattle.cudf_command_line.specs.Usage.{usage_status}
 use Rattle.cudf_command_line.specs.declared.command.Order.{Order}
 use Rattle.cudf_command_line.specs.declared.usage.Usage.{Usage}
@@ -9,9 +11,11 @@ use Rattle.cudf_command_line.specs.declared.usage.Usage.TheVariants.{Told, Mista
 use Rattle.cudf_device.specs.Outcomes.{Report, outcome_status}
 use Rattle.cudf_device.specs.Readers.{OfOne}
 use Rattle.cudf_device.specs.declared.outcome.Outcome.{Outcome}
-use Rattle.cudf_calls.specs.Calls.{BreaksOff, Does, Explains, IsLong, IsShort, Left, Reports, Says, Shows, labels, left, texts_of, work_report}
+use Rattle.cudf_problem.proofs.ListLemmas.{list_any-map}
+use Rattle.cudf_calls.specs.Calls.{BreaksOff, Does, Explains, IsLong, IsShort, Left, Reports, Says, Shows, is_better, labels, left, names_behind, names_of, texts_of}
 use Rattle.cudf_calls.specs.Working.Fronts.{IsWritten}
 use Rattle.cudf_calls.specs.declared.Input.{Input}
+use Rattle.cudf_calls.specs.declared.Text.{Text}
 use Rattle.cudf_calls.specs.declared.front.Front.{Front}
 use Rattle.cudf_calls.specs.declared.stop.Stop.{Stop}
 use Rattle.cudf_calls.specs.declared.stop.Stop.TheVariants as stops
@@ -41,12 +45,12 @@ pub does_none : (order : Order) (documents : List Input) (call : Left) → lengt
 does_none order [] call none is = is
 does_none order (first ∷ others) call none is = absurd (omega (arith, none))
 
-module _ (order : Order) (documents : List Input) (first : Input) (others : List Input) (call : Left) (are : documents ≡ first ∷ others) (files : ℕ) (many : files ≡ vec_len order.solutions) where
+module _ (order : Order) (documents : List Input) (first : Input) (others : List Input) (call : Left) (are : documents ≡ first ∷ others) (files : ℕ) (many : files ≡ vec_len order.others) where
   abbrev answer : Report
-  answer = work_report order.work order.mode (labels order.names_files first others) first.text.now (texts_of others)
+  answer = report order.job order.mode (labels order.names_files first others) first.text.now (texts_of others)
 
-  each : vec_len order.solutions ≡ length order.solutions.items
-  each = order.solutions.ok.0
+  each : vec_len order.others ≡ length order.others.items
+  each = order.others.ok.0
 
   done : Does order (first ∷ others) call → Does order documents call
   done is = subst (λ ds. Does order ds call) (sym are) is
@@ -66,6 +70,26 @@ module _ (order : Order) (documents : List Input) (first : Input) (others : List
 pub refused_so : {A B : Type 0} (stop : Stop) → (A → B) → (stop ≡ stops.Memory) ⊎ ((stop ≡ stops.Refused) × A) → (stop ≡ stops.Memory) ⊎ ((stop ≡ stops.Refused) × B)
 refused_so stop more (inl out) = inl out
 refused_so stop more (inr refused) = inr (refused.0, more refused.1)
+
+-- the documents whose files are named behind the words
+module _ (words : List Text) (documents : List Input) (items : List (String Global)) (are : map (λ word. string_bytes word) items ≡ names_of documents) where
+  abbrev texts : List (List ℕ)
+  texts = map (λ word. word.bytes.now) words
+
+  behind_if : (b : Bool) → list_any (λ word. is_better word.bytes.now) words ≡ b
+      → names_behind texts documents ≡ if b then take (length documents - 1) (names_of documents) else names_of documents
+  behind_if b is = ap (λ t. if t then take (length documents - 1) (names_of documents) else names_of documents) (list_any-map (λ word. word.bytes.now) is_better words ∙ is)
+
+  pub names_all : list_any (λ word. is_better word.bytes.now) words ≡ false → map (λ word. string_bytes word) items ≡ names_behind texts documents
+  names_all none = are ∙ sym (behind_if false none)
+
+  same_length : length items ≡ length documents
+  same_length = sym (length-map items (λ word. string_bytes word)) ∙ ap length are ∙ length-map documents (λ document. document.name.now)
+
+  pub names_front : (n : ℕ) → n ≡ length items - 1 → list_any (λ word. is_better word.bytes.now) words ≡ true
+      → map (λ word. string_bytes word) (take n items) ≡ names_behind texts documents
+  names_front n count some =
+      sym (take-map (λ word. string_bytes word) n items) ∙ ap (take n) are ∙ ap (λ k. take k (names_of documents)) (count ∙ ap (λ k. k - 1) same_length) ∙ sym (behind_if true some)
 
 -- the program's own words are texts
 pub own_name : IsUtf8 (codes "cudf_check")

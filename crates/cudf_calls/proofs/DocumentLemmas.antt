@@ -1,17 +1,11 @@
 -- What became of documents in memory that a run has read.
-use Rattle.std.proofs.Common.{◌≡◌, ◌++◌, ℕ, Bool, List, [], ◌∷◌, map, length, take, refl, sym, ap, ◌∙◌, subst, arith, append-nil}
+use Rattle.std.proofs.Common.{◌≡◌, ◌++◌, ℕ, Bool, List, [], ◌∷◌, map, length, refl, sym, ap, ◌∙◌, subst, arith, append-nil}
 use Rattle.std.specs.List.{AllZip}
 use Rattle.cudf_check.specs.Naming.{names_of as reader_names}
-use Rattle.cudf_check.specs.Report.{report}
-use Rattle.cudf_command_line.specs.declared.command.Work.{Work}
-use Rattle.cudf_command_line.specs.declared.command.Work.TheVariants.{Run, Rank}
 use Rattle.cudf_device.specs.Device.{SourceState}
 use Rattle.cudf_device.specs.Readers.{Change, change, ReadsAll, changes}
-use Rattle.cudf_job.specs.declared.job.Job.TheVariants.{Lint, Check, Score, Cnf, Refute}
-use Rattle.cudf_problem.specs.declared.mode.Mode.{Mode}
-use Rattle.cudf_calls.specs.Calls.{label, labels, texts_of, work_report}
+use Rattle.cudf_calls.specs.Calls.{label, labels, texts_of}
 use Rattle.cudf_calls.specs.Working.Documents.{IsNew, document_state}
-use Rattle.cudf_calls.specs.Working.Orders.{read_by, read_of}
 use Rattle.cudf_calls.specs.declared.Input.{Input}
 use Rattle.cudf_calls.specs.declared.document.Document.{Document}
 
@@ -56,39 +50,6 @@ module _ (names_files : Bool) where
       go [] (r ∷ readers) all = absurd all
       go (i ∷ inputs) [] all = absurd all
       go (i ∷ inputs) (r ∷ readers) all = λ k. all.0.named k ∷ go inputs readers all.1 k
-
-  -- ---- what some work reads
-
-  first_of : (inputs : List Input) (readers : List (Change SourceState)) → AllZip OfInput inputs readers → AllZip OfInput (take 1 inputs) (take 1 readers)
-  first_of [] [] each = tt
-  first_of [] (r ∷ readers) each = absurd each
-  first_of (i ∷ inputs) [] each = absurd each
-  first_of (i ∷ inputs) (r ∷ readers) each = (each.0, tt)
-
-  pub of_read : (work : Work) (inputs : List Input) (readers : List (Change SourceState)) → AllZip OfInput inputs readers → AllZip OfInput (read_of work inputs) (read_by work readers)
-  of_read (Rank aims) inputs readers each = each
-  of_read (Run (Lint explain)) inputs readers each = tt
-  of_read (Run Cnf) inputs readers each = tt
-  of_read (Run (Check after limit explain)) inputs readers each = first_of inputs readers each
-  of_read (Run (Score aims)) inputs readers each = first_of inputs readers each
-  of_read (Run (Refute explain)) inputs readers each = first_of inputs readers each
-
-  -- inputs that aren't read change nothing in the report
-  pub same_report : (work : Work) (mode : Mode) (first : Input) (inputs : List Input)
-      → work_report work mode (labels names_files first (read_of work inputs)) first.text.now (texts_of (read_of work inputs))
-      ≡ work_report work mode (labels names_files first inputs) first.text.now (texts_of inputs)
-  unfolding report
-  same_report (Rank aims) mode first inputs = refl
-  same_report (Run (Lint explain)) mode first [] = refl
-  same_report (Run (Lint explain)) mode first (i ∷ inputs) = refl
-  same_report (Run Cnf) mode first [] = refl
-  same_report (Run Cnf) mode first (i ∷ inputs) = refl
-  same_report (Run (Check after limit explain)) mode first [] = refl
-  same_report (Run (Check after limit explain)) mode first (i ∷ inputs) = refl
-  same_report (Run (Score aims)) mode first [] = refl
-  same_report (Run (Score aims)) mode first (i ∷ inputs) = refl
-  same_report (Run (Refute explain)) mode first [] = refl
-  same_report (Run (Refute explain)) mode first (i ∷ inputs) = refl
 
   -- documents as they are lent and returned
   pub of_others : (inputs : List Input) (lent olds news : List Document) → olds ≡ lent → AllZip (IsNew names_files) inputs lent → length news ≡ length olds

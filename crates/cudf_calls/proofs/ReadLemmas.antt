@@ -3,6 +3,7 @@ use Rattle.std.proofs.Common.{◌≡◌, ◌<◌, ◌++◌, ℕ, List, [], lengt
 use Rattle.std.specs.List.{AllZip}
 use Rattle.std.specs.Io.KnownBytes.{Appends, Keeps}
 use Rattle.cudf_check.specs.Naming.{names_of as reader_names}
+use Rattle.cudf_check.specs.JobReport.{report}
 use Rattle.cudf_check.specs.Runs.{Runs}
 use Rattle.cudf_command_line.specs.declared.command.Order.{Order}
 use Rattle.cudf_device.specs.Device.{SourceState}
@@ -11,15 +12,14 @@ use Rattle.cudf_device.specs.Readers.{Change, change}
 use Rattle.cudf_device.specs.declared.outcome.Outcome.{Outcome}
 use Rattle.cudf_device.specs.declared.outcome.RunError.{RunError}
 use Rattle.cudf_device.specs.declared.outcome.RunError.TheVariants as errors
-use Rattle.cudf_calls.specs.Calls.{labels, texts_of, work_report}
+use Rattle.cudf_calls.specs.Calls.{labels, texts_of}
 use Rattle.cudf_calls.specs.Working.Fronts.{front_state, IsUnwritten, IsWritten}
-use Rattle.cudf_calls.specs.Working.Orders.{read_by, read_of}
 use Rattle.cudf_calls.specs.Working.Rooms.{over}
 use Rattle.cudf_calls.specs.declared.Input.{Input}
 use Rattle.cudf_calls.specs.declared.front.Front.{Front}
 use Rattle.cudf_calls.specs.declared.stop.Stop.{Stop}
 use Rattle.cudf_calls.specs.declared.stop.Stop.TheVariants.{Memory}
-use Rattle.cudf_calls.proofs.DocumentLemmas.{OfInput, all_whole, are_named, of_read, same_report}
+use Rattle.cudf_calls.proofs.DocumentLemmas.{OfInput, all_whole, are_named}
 use Rattle.cudf_calls.proofs.RoomLemmas.{over-none, taken, untaken}
 
 -- ---- fronts
@@ -57,21 +57,17 @@ module _ (old new : Front) where
 module _ (order : Order) (first : Input) (others : List Input) (reader : Change SourceState) (readers : List (Change SourceState)) (old new : Front)
     (of_first : OfInput order.names_files first reader) (of_others : AllZip (OfInput order.names_files) others readers) where
   abbrev answer : Report
-  answer = work_report order.work order.mode (labels order.names_files first others) first.text.now (texts_of others)
+  answer = report order.job order.mode (labels order.names_files first others) first.text.now (texts_of others)
 
-  module _ (outcome : Outcome) (runs : Runs (work_report order.work order.mode) reader (read_by order.work readers) (change front_state old new) (Ok outcome)) where
+  module _ (outcome : Outcome) (runs : Runs (report order.job order.mode) reader readers (change front_state old new) (Ok outcome)) where
     done : Appends (front_state old).contents (front_state new).contents answer.text × (outcome ≡ answer.outcome)
     done =
         let read = runs.done in
-        let inputs = read_of order.work others in
-        let each = of_read order.names_files order.work others readers of_others in
-        let texts : read.texts ≡ texts_of inputs = all_whole order.names_files inputs (read_by order.work readers) read.texts each read.others_read in
+        let texts : read.texts ≡ texts_of others = all_whole order.names_files others readers read.texts of_others read.others_read in
         let text : read.text ≡ first.text.now = of_first.whole read.text read.first_read in
-        let names : reader_names reader (read_by order.work readers) ≡ labels order.names_files first inputs
-        = are_named order.names_files first reader inputs (read_by order.work readers) of_first each in
-        let report : work_report order.work order.mode (reader_names reader (read_by order.work readers)) read.text read.texts ≡ answer
-        = (λ k. work_report order.work order.mode (names k) (text k) (texts k)) ∙ same_report order.names_files order.work order.mode first others in
-        subst (λ r. Appends (front_state old).contents (front_state new).contents r.text × (outcome ≡ r.outcome)) report read.holds
+        let names : reader_names reader readers ≡ labels order.names_files first others = are_named order.names_files first reader others readers of_first of_others in
+        let same : report order.job order.mode (reader_names reader readers) read.text read.texts ≡ answer = λ k. report order.job order.mode (names k) (text k) (texts k) in
+        subst (λ r. Appends (front_state old).contents (front_state new).contents r.text × (outcome ≡ r.outcome)) same read.holds
 
     pub run_named : new.room.ghost_name ≡ old.room.ghost_name
     run_named = front_named old new answer.text done.0
@@ -80,19 +76,19 @@ module _ (order : Order) (first : Input) (others : List Input) (reader : Change 
     run_written none = let shown = front_shows old new answer.text done.0 none in record { outcome_is = done.1; length_is = shown.0; shown = shown.1 }
 
   -- nothing was written: no write failed
-  same : (error : RunError) → Runs (work_report order.work order.mode) reader (read_by order.work readers) (change front_state old new) (Err error)
+  same : (error : RunError) → Runs (report order.job order.mode) reader readers (change front_state old new) (Err error)
       → Keeps (front_state old).contents (front_state new).contents
   same errors.Read runs = runs.untouched (λ is. absurd (cc is))
   same errors.TooLong runs = runs.untouched (λ is. absurd (cc is))
   same errors.Write runs = let failed : 0 < 0 = runs.write.0 refl in absurd (omega (arith, failed))
   same errors.Memory runs = runs.untouched (λ is. absurd (cc is))
 
-  pub run_named-ended : (error : RunError) → Runs (work_report order.work order.mode) reader (read_by order.work readers) (change front_state old new) (Err error)
+  pub run_named-ended : (error : RunError) → Runs (report order.job order.mode) reader readers (change front_state old new) (Err error)
       → new.room.ghost_name ≡ old.room.ghost_name
   run_named-ended error runs = front_named-same old new (same error runs)
 
   -- a call ends as its run did
-  pub run_ended : (error : RunError) (result : Result Outcome Stop) → Runs (work_report order.work order.mode) reader (read_by order.work readers) (change front_state old new) (Err error)
+  pub run_ended : (error : RunError) (result : Result Outcome Stop) → Runs (report order.job order.mode) reader readers (change front_state old new) (Err error)
       → IsErr result × IsErrAnd result (λ stop. stop ≡ Memory) → MatchResult result (IsWritten answer old new) (IsUnwritten old new)
   run_ended error (Ok outcome) runs is = absurd (cc is.0)
   run_ended error (Err stop) runs is = record { why = is.1; kept = front_kept old new (same error runs) }

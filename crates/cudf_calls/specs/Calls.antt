@@ -1,20 +1,16 @@
 -- What a call of the library leaves. Own.
-use Rattle.std.specs.Prelude.{◌≡◌, ◌≢◌, ◌<◌, ◌≤◌, ◌⊎◌, ◌++◌, ℕ, List, [], ◌∷◌, length, map, min, take, drop, codes, string_bytes, Bool, Option, Some, None, if◌then◌else◌}
-use Rattle.std.specs.List.{All}
+use Rattle.std.specs.Prelude.{◌≡◌, ◌≢◌, ◌<◌, ◌≤◌, ◌⊎◌, ◌++◌, ℕ, List, [], ◌∷◌, length, map, min, take, drop, nat_eq, ◌-◌, codes, string_bytes, Bool, Option, Some, None, if◌then◌else◌}
+use Rattle.std.specs.List.{All, list_any, starts_with}
 use Rattle.std.specs.Str.{IsUtf8}
 use Rattle.cudf_check.specs.Naming.{Names}
-use Rattle.cudf_check.specs.RankReport.{rank_report}
-use Rattle.cudf_check.specs.Runs.{job_report}
+use Rattle.cudf_check.specs.JobReport.{report}
 use Rattle.cudf_command_line.specs.Orders.{IsAskedFor, IsUnasked}
 use Rattle.cudf_command_line.specs.Usage.{usage_status}
 use Rattle.cudf_command_line.specs.declared.command.Order.{Order}
-use Rattle.cudf_command_line.specs.declared.command.Work.{Work}
-use Rattle.cudf_command_line.specs.declared.command.Work.TheVariants.{Run, Rank}
 use Rattle.cudf_command_line.specs.declared.usage.Usage.{Usage}
 use Rattle.cudf_command_line.specs.declared.usage.Usage.TheVariants.{Told}
 use Rattle.cudf_device.specs.Outcomes.{outcome_status, Report}
 use Rattle.cudf_device.specs.Readers.{OfOne, most_bytes}
-use Rattle.cudf_problem.specs.declared.mode.Mode.{Mode}
 use Rattle.cudf_calls.specs.declared.Input.{Input}
 
 -- ---- what is left
@@ -86,10 +82,23 @@ labels names_files first others = record { first = label names_files first.name.
 
 -- ---- words
 
--- the program's command line: its own name, the words, and behind `--` the names of the documents
+-- the word names the file of `--better-than`
+abbrev pub is_better : List ℕ → Bool
+is_better word = starts_with nat_eq word (codes "--better-than=")
+
+-- the names of the documents that stand for files behind the words: of all, or where a word names the file of `--better-than`, for which
+-- the last one stands, of all but that
+abbrev pub names_behind : List (List ℕ) → List Input → List (List ℕ)
+names_behind words documents = if list_any is_better words then take (length documents - 1) (names_of documents) else names_of documents
+
+-- behind `--` all words are files
+abbrev pub behind : List (List ℕ) → List (List ℕ)
+behind [] = []
+behind (name ∷ names) = codes "--" ∷ name ∷ names
+
+-- the program's command line: its own name, the words, and the names of documents
 abbrev pub line_of : List (List ℕ) → List Input → List (List ℕ)
-line_of words [] = codes "cudf_check" ∷ words
-line_of words (first ∷ others) = codes "cudf_check" ∷ words ++ codes "--" ∷ names_of (first ∷ others)
+line_of words documents = codes "cudf_check" ∷ words ++ behind (names_behind words documents)
 
 -- a word isn't UTF-8
 abbrev pub IsNoText : List ℕ → Type 0
@@ -97,18 +106,13 @@ IsNoText word = IsUtf8 word → ⊥
 
 -- ---- calls
 
--- the report of some work on documents of these names and texts; a run is on the first solution, where there is one
-abbrev pub work_report : Work → Mode → Names → List ℕ → List (List ℕ) → Report
-work_report (Run job) mode = job_report job mode
-work_report (Rank aims) mode = rank_report aims.items mode
-
 -- what an order does on documents, of which there has to be one for each of its files: else a word names a file, and the status is 4
 abbrev pub Does : Order → List Input → Left → Type 0
 Does order [] call = Explains 4 call
 Does order (first ∷ others) call =
-    ((length others ≢ length order.solutions.items) × Explains 4 call)
-    ⊎ ((length others ≡ length order.solutions.items)
-    × Answers (texts_of (first ∷ others)) (work_report order.work order.mode (labels order.names_files first others) first.text.now (texts_of others)) call)
+    ((length others ≢ length order.others.items) × Explains 4 call)
+    ⊎ ((length others ≡ length order.others.items)
+    × Answers (texts_of (first ∷ others)) (report order.job order.mode (labels order.names_files first others) first.text.now (texts_of others)) call)
 
 -- what is told of words that ask for no order: help and the version; a message with status 4; or that memory ran out
 abbrev pub Says : Usage → Left → Type 0

@@ -2,5 +2,4 @@ pub mod Bytes
 pub mod Documents
 pub mod Fronts
 pub mod Given
-pub mod Orders
 pub mod Rooms

@@ -2,15 +2,13 @@
 ghost use Rattle.std.specs.Prelude.{◌≡◌, [], ◌∷◌, IfOk, MatchResult, map, option_map, string_bytes};
 ghost use Rattle.std.specs.List.{All, AllZip};
 ghost use Rattle.std.specs.Str.{IsUtf8};
-ghost use Rattle.cudf_check.specs.Runs.{Runs, job_report, read_for};
+ghost use Rattle.cudf_check.specs.JobReport.{report};
 ghost use Rattle.cudf_command_line.specs.Orders.{IsAskedFor, IsUnasked};
 ghost use Rattle.cudf_command_line.specs.declared.command.Order.{Order};
 ghost use Rattle.cudf_command_line.specs.declared.usage.Usage.{Usage};
-ghost use Rattle.cudf_device.specs.Readers.{change, changes};
-ghost use Rattle.cudf_calls.specs.Calls.{Does, Follows, Reports, label, labels, left, names_of, texts_of, work_report};
+ghost use Rattle.cudf_calls.specs.Calls.{Does, Follows, Reports, label, labels, left, names_of, texts_of};
 ghost use Rattle.cudf_calls.specs.Working.Documents.{IsNew};
 ghost use Rattle.cudf_calls.specs.Working.Fronts.{IsUnwritten, IsWritten};
-ghost use Rattle.cudf_calls.specs.Working.Orders.{read_by};
 
 use crate::Input;
 use crate::document::Document;
@@ -18,9 +16,9 @@ use crate::front::{Front, Seen};
 use crate::lengths::are_short;
 use crate::stop::Stop;
 use crate::told::{explain, refuse, show};
-use cudf_check::{Job, Mode, Outcome, RunError, Sink, Source, rank, run};
+use cudf_check::{Outcome, run};
+use cudf_command_line::Order;
 use cudf_command_line::command::command;
-use cudf_command_line::{Order, Work};
 use std::alloc::{AllocError, Global};
 
 /// Does what these words of a command line ask for.
@@ -41,7 +39,7 @@ pub(crate) fn obey(
     }
 }
 
-/// Does the work of an order, if there are as many documents as files.
+/// Carries an order out, if there are as many documents as files.
 fn carry_out(
     alloc: Global,
     order: &Order<'_>,
@@ -57,7 +55,7 @@ fn carry_out(
     let Some((first, others)) = documents.split_first() else {
         return show(4, message, room, length);
     };
-    if others.len() != order.solutions.len() {
+    if others.len() != order.others.len() {
         return show(4, message, room, length);
     }
     if !are_short(documents) {
@@ -77,7 +75,7 @@ fn report<'t>(
 ) -> u8
     requires { All IsUtf8 (names_of (first.now ∷ others.now)) }
 
-    ensures { Reports (work_report order.now.work order.now.mode (labels order.now.names_files first.now others.now) first.now.text.now (texts_of others.now)) (left room.old room.new length.new result) }
+    ensures { Reports (report order.now.job order.now.mode (labels order.now.names_files first.now others.now) first.now.text.now (texts_of others.now)) (left room.old room.new length.new result) }
 {
     let mut seen = Seen::of(room);
     let mut out = Front::new(room, &mut seen);
@@ -103,13 +101,20 @@ fn write<'t>(
 
     ensures same_reference { out.new.room.ghost_name ≡ out.old.room.ghost_name }
     ensures written { MatchResult result
-        (IsWritten (work_report order.now.work order.now.mode (labels order.now.names_files first.now others.now) first.now.text.now (texts_of others.now)) out.old out.new)
+        (IsWritten (report order.now.job order.now.mode (labels order.now.names_files first.now others.now) first.now.text.now (texts_of others.now)) out.old out.new)
         (IsUnwritten out.old out.new) }
 {
     let names_files = order.names_files;
     let mut problem = document(names_files, first);
-    let mut solutions = documents(alloc, names_files, others)?;
-    let outcome = perform(alloc, order, &mut problem, &mut solutions, out)?;
+    let mut others = documents(alloc, names_files, others)?;
+    let outcome = run(
+        alloc,
+        &order.job,
+        order.mode,
+        &mut problem,
+        &mut others,
+        out,
+    )?;
     Ok(outcome)
 }
 
@@ -147,39 +152,4 @@ fn label(names_files: bool, name: &[u8]) -> Option<&str>
     } else {
         None
     }
-}
-
-/// Does the work of an order on its documents: a run is on the first of the solutions, where there is one.
-fn perform<D: Source, W: Sink>(
-    alloc: Global,
-    order: &Order<'_>,
-    problem: &mut D,
-    solutions: &mut [D],
-    out: &mut W,
-) -> Result<Outcome, RunError>
-    ensures { Runs (work_report order.now.work order.now.mode) (change D.state problem.old problem.new)
-        (read_by order.now.work (changes D.state solutions.old solutions.new)) (change W.state out.old out.new) result }
-{
-    match &order.work {
-        Work::Rank(aims) => rank(alloc, aims, order.mode, problem, solutions, out),
-        Work::Run(job) => match solutions.first_mut() {
-            Some(solution) => run_on(alloc, job, order.mode, problem, solution, out),
-            None => run::<_, Document<'static>, _>(alloc, job, order.mode, problem, None, out),
-        },
-    }
-}
-
-/// A run on a problem and a solution.
-fn run_on<D: Source, W: Sink>(
-    alloc: Global,
-    job: &Job,
-    mode: Mode,
-    problem: &mut D,
-    solution: &mut D,
-    out: &mut W,
-) -> Result<Outcome, RunError>
-    ensures { Runs (job_report job.now mode) (change D.state problem.old problem.new)
-        (read_for job.now (change D.state solution.old solution.new ∷ [])) (change W.state out.old out.new) result }
-{
-    run(alloc, job, mode, problem, Some(solution), out)
 }

@@ -45,7 +45,8 @@ pub struct Input<'t> {
     pub name: &'t [u8],
 }
 
-/// Does what the words ask the program for, on the documents in place of the files that it would name behind them.
+/// Does what the words ask the program for, on the documents in place of the files that it would name behind them. The last
+/// document stands for the file of `--better-than=NAME`, where that is one of the words.
 pub fn run(
     alloc: Global,
     words: &[Text<'_>],

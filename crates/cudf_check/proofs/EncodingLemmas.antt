@@ -1,31 +1,16 @@
 -- Clauses by their indices and numbers.
-use Rattle.std.proofs.Common.{◌≡◌, ◌<◌, ◌+◌, ◌-◌, ℕ, zero, suc, List, [], ◌∷◌, ◌++◌, length, take, get_or, Option, Some, None, slice_get, option_map, filter_map, refl, ap, sym, ◌∙◌, arith}
+use Rattle.std.proofs.Common.{◌≡◌, ◌<◌, ◌+◌, ◌-◌, ℕ, zero, suc, List, [], ◌∷◌, ◌++◌, length, take, get_or, Option, Some, None, slice_get, option_map, filter_map, ap, sym, ◌∙◌, arith}
 use Rattle.std.proofs.lemmas.List.{take_more}
 use Rattle.std.proofs.lemmas.List.Elements.{filter_map-append}
-use Rattle.std.proofs.lemmas.Option.{slice_get_within, get_or_from_slice_get}
-use Rattle.std.specs.List.{flat_map}
 use Rattle.cudf_job.specs.Keys.{PlainKey}
 use Rattle.cudf_lrat.specs.declared.cnf.Literal.{Literal}
 use Rattle.cudf_cnf.specs.Cnf.{Keyed}
 use Rattle.cudf_check.specs.Report.{needed}
-use Rattle.cudf_device.proofs.PaperLemmas.{texts-more}
 
 -- an entry after the first one
 pub later_entry : {A : Type 0} (x : A) (xs : List A) (n : ℕ) → 0 < n → slice_get (x ∷ xs) n ≡ slice_get xs (n - 1)
 later_entry x xs zero h = absurd (omega arith)
 later_entry x xs (suc n) h = let less : suc n - 1 ≡ n = omega arith in ap (slice_get xs) (sym less)
-
--- the text of one element more, which is known by a part of it
-pub next_text : {A B : Type 0} (f : B → List ℕ) (part : A → B) (xs : List A) (i : ℕ) (y : B) → option_map part (slice_get xs i) ≡ Some y
-    → flat_map (λ x. f (part x)) (take i xs) ++ f y ≡ flat_map (λ x. f (part x)) (take (i + 1) xs)
-next_text f part xs i y is = go (slice_get xs i) refl is
-  where
-    go : (found : Option _) → slice_get xs i ≡ found → option_map part found ≡ Some y
-        → flat_map (λ x. f (part x)) (take i xs) ++ f y ≡ flat_map (λ x. f (part x)) (take (i + 1) xs)
-    go None at h = absurd (cc h)
-    go (Some x) at h =
-        let same : part (get_or xs i x) ≡ y = ap part (get_or_from_slice_get xs i x x at) ∙ cc h in
-        ap (λ z. flat_map (λ x. f (part x)) (take i xs) ++ f z) (sym same) ∙ texts-more (λ x. f (part x)) xs i x (slice_get_within xs i x at)
 
 -- a clause by its two halves
 pub halves : (clauses : List Keyed) (index : ℕ) (key : PlainKey) (literals : List Literal) → option_map (λ c. c.0) (slice_get clauses index) ≡ Some key

@@ -1,25 +1,43 @@
 -- What is written with `Yes` means what it is to.
-use Rattle.std.proofs.Common.{append-nil, filter, ◌≡◌, ◌<◌, ◌-◌, ◌||◌, inl, inr, ℕ, zero, suc, Bool, true, false, List, [], ◌∷◌, ◌++◌, length, map, filter_map, slice_get, get_or, Option, Some, None, option_map, Result, Ok, Err, IfOk, Contains, codes, unwrap_or, refl, ap, sym, subst, ◌∙◌, arith, if◌then◌else◌}
-use Rattle.std.specs.List.{cons_option, flat_map, list_any}
+use Rattle.std.proofs.Common.{append-nil, filter, ◌≡◌, ◌<◌, ◌-◌, ◌||◌, inl, inr, ℕ, zero, suc, Bool, true, false, List, [], ◌∷◌, ◌++◌, length, map, filter_map, slice_get, get_or, Option, Some, None, option_map, Result, Ok, Err, IfOk, Contains, codes, refl, ap, sym, subst, ◌∙◌, arith, if◌then◌else◌}
+use Rattle.std.specs.List.{AllZip, cons_option, flat_map, list_any}
+use Rattle.std.specs.Str.{is_utf8}
 use Rattle.std.specs.Option.{option_map_or}
 use Rattle.std.proofs.lemmas.List.Elements.{Contains-append_left}
 use Rattle.std.proofs.lemmas.List.Sorted.{list_any-IsPermutation}
 use Rattle.cudf_text.specs.declared.fault.Fault.{Fault}
-use Rattle.cudf_text.specs.Stanzas.{plain_text}
+use Rattle.cudf_text.specs.Joined.{is_fail}
+use Rattle.cudf_text.specs.LineFaults.{utf8_fault}
+use Rattle.cudf_text.specs.Stanzas.{PlainText, plain_text}
 use Rattle.cudf_problem.specs.declared.mode.Mode.{Mode}
 use Rattle.cudf_problem.specs.Statuses.{PlainUnknown}
-use Rattle.cudf_problem.specs.Universe.{PlainProblem, plain_problem}
+use Rattle.cudf_problem.specs.Promises.Packages.{are_distinct}
+use Rattle.cudf_problem.specs.Universe.{PlainProblem, package_id, plain_problem}
+use Rattle.cudf_document.specs.Faults.{least}
+use Rattle.cudf_document.specs.ProblemFaults.{problem_faults}
+use Rattle.cudf_document.proofs.FaultLemmas.{least-none}
+use Rattle.cudf_document.proofs.FaultlessLemmas.{ids_distinct}
 use Rattle.cudf_job.specs.Keys.{PlainKey}
+use Rattle.cudf_job.specs.declared.aims.Aim.{Aim}
+use Rattle.cudf_job.specs.declared.criteria.Criteria.{Criteria}
 use Rattle.cudf_job.specs.declared.job.Job.{Job}
-use Rattle.cudf_job.specs.declared.job.Job.TheVariants.{Lint, Check, Score, Cnf, Refute}
+use Rattle.cudf_job.specs.declared.ranking.Judgement.TheVariants.{Solution, NoSolution, SaysFail}
+use Rattle.cudf_job.specs.declared.job.Job.TheVariants.{Lint, Check, Score, Rank, Cnf, CnfBetter, Refute, RefuteBetter}
 use Rattle.cudf_lrat.specs.Answers.{PlainAnswer, checked, faulty, refuted}
 use Rattle.cudf_lrat.specs.Laws.{RefutedIsCore}
+use Rattle.cudf_lrat.specs.Literals.{PlainCnf}
+use Rattle.cudf_better.specs.Encodings.{better_cnf}
+use Rattle.cudf_better.specs.Encodings as better_encodings
+use Rattle.cudf_better.specs.Laws.{BetterSatisfies, RefutedIsBest}
 use Rattle.cudf_cnf.specs.Cnf.{Keyed, clauses_of, cnf, is_too_large}
 use Rattle.cudf_cnf.specs.Laws.{SolutionSatisfies, proposed}
 use Rattle.cudf_cnf.proofs.LawLemmas.{falls, listing_falls, refuted_are_violated}
 use Rattle.cudf_cnf.proofs.OrderLemmas.{keys_never_descend}
 use Rattle.cudf_cnf.proofs.TestLemmas.{or_left, or_right}
+use Rattle.cudf_referee.specs.Criteria.{criteria}
 use Rattle.cudf_referee.specs.Instances.{PlainInstance}
+use Rattle.cudf_referee.specs.Proposals.{Proposal}
+use Rattle.cudf_referee.specs.Solutions.{is_solution}
 use Rattle.cudf_referee.specs.Violations.{instance_of, listing, problem_instances, unknown_instance}
 use Rattle.cudf_referee.proofs.KeyedLemmas.{instance-found}
 use Rattle.cudf_referee.proofs.WhereLemmas.{listed_is_of_problem}
@@ -29,15 +47,18 @@ use Rattle.cudf_reasons.proofs.KeyOrderLemmas.{same_is, same_itself}
 use Rattle.cudf_reasons.proofs.LawLemmas.{each_told_once}
 use Rattle.cudf_device.specs.Device.{SinkState, SourceState}
 use Rattle.cudf_device.specs.Readers.{Change, OfOne, ReadsAll}
-use Rattle.cudf_check.specs.JobStyles.{document_style, refutation_style}
-use Rattle.cudf_check.specs.Meanings.{Encodes, HasWritten, Means, Refutes}
+use Rattle.cudf_check.specs.BetterReport.{best_text, better_report, cnf_better, judged_as, refute_better}
+use Rattle.cudf_check.specs.JobReport.{report}
+use Rattle.cudf_check.specs.JobStyles.{input_at, refutation_style}
+use Rattle.cudf_check.specs.Meanings.{Encodes, EncodesBetter, HasWritten, IsBest, Means, Refutes, put_forward}
 use Rattle.cudf_check.specs.Naming.{Names}
-use Rattle.cudf_check.specs.Report.{cnf_answer, dimacs, faulty_or, line, needed, problem_fault, problem_report, proof_report, reason_line, refute_answer, report, told_line, unless_too_large}
-use Rattle.cudf_check.specs.Styles.{Style, of_problem}
+use Rattle.cudf_check.specs.RankReport.{judgement}
+use Rattle.cudf_check.specs.Report.{checked_report, cnf_answer, core_text, dimacs, faulty_or, line, needed, problem_fault, problem_report, proof_report, proposal_of, reason_line, refute_answer, rules_of, solution_fault, told_line, unless_too_large, with_yes}
+use Rattle.cudf_check.specs.Styles.{Style, of_problem, of_solution, plainly}
 use Rattle.cudf_device.specs.Outcomes.{Report}
 use Rattle.cudf_device.specs.Promises.Answering.{Answers}
 use Rattle.cudf_device.specs.declared.outcome.Outcome.{Outcome}
-use Rattle.cudf_device.specs.declared.outcome.Outcome.TheVariants.{Yes, TooLarge}
+use Rattle.cudf_device.specs.declared.outcome.Outcome.TheVariants.{Yes}
 use Rattle.cudf_device.specs.declared.outcome.RunError.{RunError}
 use Rattle.cudf_check.proofs.CoreLemmas.{core_by_key}
 
@@ -145,31 +166,29 @@ violates_one law problem text core is is_installed unknown =
     (λ key same. (v.instance, ap (instance_of problem) (same_is key v.clause.0 same ∙ sym v.key) ∙ instance-found problem v.instance of, still_listed problem is_installed unknown v.instance v.violated))
     (told_of_core problem core) (any_told test (reasons_of (needed clauses core)) ∙ by_reason)
 
--- a report of a problem with `Yes` is what is answered of it
+-- a report of a problem with `Yes` is what is answered of it, and it has no fault
 answered : (P : List ℕ → Type 0) (style : Style) (mode : Mode) (bytes : List ℕ) (answer : PlainProblem → Report)
-    → ((answer (plain_problem (plain_text bytes))).outcome ≡ Yes → P (answer (plain_problem (plain_text bytes))).text) → let r = problem_report style mode bytes answer in r.outcome ≡ Yes → P r.text
-answered P style mode bytes answer holds = by (problem_fault mode bytes)
+    → (problem_fault mode bytes ≡ None → (answer (plain_problem (plain_text bytes))).outcome ≡ Yes → P (answer (plain_problem (plain_text bytes))).text)
+    → let r = problem_report style mode bytes answer in r.outcome ≡ Yes → P r.text
+answered P style mode bytes answer holds = by (problem_fault mode bytes) refl
   where
-    by : (fault : Option Fault) → let r = faulty_or style of_problem (codes "problem") fault (answer (plain_problem (plain_text bytes))) in r.outcome ≡ Yes → P r.text
-    by (Some f) h = absurd (cc h)
-    by None h = holds h
+    by : (fault : Option Fault) → problem_fault mode bytes ≡ fault → let r = faulty_or style of_problem (codes "problem") fault (answer (plain_problem (plain_text bytes))) in r.outcome ≡ Yes → P r.text
+    by (Some f) is h = absurd (cc h)
+    by None is h = holds is h
 
 -- and so is one of a CNF that isn't too large
-written : (P : List ℕ → Type 0) (problem : PlainProblem) (r : Report) → (r.outcome ≡ Yes → P r.text) → let u = unless_too_large problem r in u.outcome ≡ Yes → P u.text
-written P problem r holds = by (is_too_large problem)
-  where
-    by : (large : Bool) → let u : Report = if large then (record { text = []; outcome = TooLarge }) else r in u.outcome ≡ Yes → P u.text
-    by true h = absurd (cc h)
-    by false h = holds h
+written : (P : List ℕ → Type 0) (large : Bool) (r : Report) → (large ≡ false → r.outcome ≡ Yes → P r.text) → let u = unless_too_large large r in u.outcome ≡ Yes → P u.text
+written P true r holds h = absurd (cc h)
+written P false r holds h = holds refl h
 
-encodes : SolutionSatisfies → (problem : PlainProblem) → Encodes problem (dimacs problem.packages (clauses_of (cnf problem)))
+encodes : SolutionSatisfies → (problem : PlainProblem) → Encodes problem (dimacs problem.packages (rules_of problem))
 encodes law problem = record { clauses = clauses_of (cnf problem); printed = refl; models = λ is_installed. sym (law problem is_installed []) }
 
-refutes : RefutedIsCore → (style : Style) (problem : PlainProblem) (proof : List ℕ) → let r = proof_report style problem (checked (length problem.packages) (clauses_of (cnf problem)) proof) in
-    r.outcome ≡ Yes → Refutes style problem r.text
+refutes : RefutedIsCore → (style : Style) (problem : PlainProblem) (proof : List ℕ) → let r = checked_report style (rules_of problem) (core_text style problem) proof in r.outcome ≡ Yes → Refutes style problem r.text
 refutes law style problem proof = by (checked (length problem.packages) (clauses_of (cnf problem)) proof) refl
   where
-    by : (answer : PlainAnswer) → checked (length problem.packages) (clauses_of (cnf problem)) proof ≡ answer → let r = proof_report style problem answer in r.outcome ≡ Yes → Refutes style problem r.text
+    by : (answer : PlainAnswer) → checked (length problem.packages) (clauses_of (cnf problem)) proof ≡ answer
+        → let r = proof_report style (length (clauses_of (cnf problem))) (core_text style problem) answer in r.outcome ≡ Yes → Refutes style problem r.text
     by (faulty number kind) is h = absurd (cc h)
     by (refuted core) is h = record {
       reasons = named_reasons problem (told_of_core problem core);
@@ -177,37 +196,110 @@ refutes law style problem proof = by (checked (length problem.packages) (clauses
       violated = violates_one law problem proof core is;
     }
 
--- ---- a run
-
 -- the lines of instances are the same whatever the proof
 whatever_proof : (explain : Bool) (bytes proof text : List ℕ) (problem : PlainProblem) → Refutes (refutation_style explain bytes proof) problem text → Refutes (refutation_style explain bytes []) problem text
 whatever_proof explain bytes proof text problem r = record { reasons = r.reasons; lines = r.lines; violated = r.violated }
 
-report_means : RefutedIsCore → SolutionSatisfies → (job : Job) (mode : Mode) (names : Names) (bytes : List ℕ) (second : Option (List ℕ)) → let r = report job mode names bytes second in
-    r.outcome ≡ Yes → Means job bytes r.text
-unfolding report
-report_means refuted_is_core satisfies (Lint explain) mode names bytes second ends = tt
-report_means refuted_is_core satisfies (Check after limit explain) mode names bytes second ends = tt
-report_means refuted_is_core satisfies (Score aims) mode names bytes second ends = tt
-report_means refuted_is_core satisfies Cnf mode names bytes second ends =
-    let problem = plain_problem (plain_text bytes) in
-    let r : Report = record { text = dimacs problem.packages (clauses_of (cnf problem)); outcome = Yes } in
-    answered (Encodes problem) (document_style false None bytes) mode bytes cnf_answer (written (Encodes problem) problem r (λ ended. encodes satisfies problem)) ends
-report_means refuted_is_core satisfies (Refute explain) mode names bytes second ends =
-    let problem = plain_problem (plain_text bytes) in
-    let proof = unwrap_or second [] in
-    let style = refutation_style explain bytes proof in
-    let r = proof_report style problem (checked (length problem.packages) (clauses_of (cnf problem)) proof) in
-    let told = Refutes (refutation_style explain bytes []) problem in
-    answered told style mode bytes (refute_answer style proof) (written told problem r (λ ended. whatever_proof explain bytes proof r.text problem (refutes refuted_is_core style problem proof ended))) ends
+-- ---- better solutions
 
-pub run_means : RefutedIsCore → SolutionSatisfies → (job : Job) (mode : Mode) (names : Names) (first : Change SourceState) (out : Change SinkState) (bytes : List ℕ) (second : Option (List ℕ)) (result : Result Outcome RunError) → ReadsAll first bytes
-    → Answers out.before out.after (report job mode names bytes second) result → IfOk result (λ outcome. outcome ≡ Yes → HasWritten (Means job) first out)
-run_means refuted_is_core satisfies job mode names first out bytes second (Err e) read answers = tt
-run_means refuted_is_core satisfies job mode names first out bytes second (Ok outcome) read answers = λ ends. record {
-  bytes = bytes;
-  text = (report job mode names bytes second).text;
-  read = read;
-  written = answers.ok.written;
-  holds = report_means refuted_is_core satisfies job mode names bytes second (sym answers.ok.answered ∙ ends);
-}
+-- a problem without fault has each pair once
+pairs_of : (text : PlainText) (mode : Mode) → problem_faults text mode ≡ [] → are_distinct (map package_id (plain_problem text).packages) ≡ true
+unfolding plain_problem
+pairs_of text mode none = ids_distinct text mode none
+
+distinct_pairs : (mode : Mode) (bytes : List ℕ) → problem_fault mode bytes ≡ None → are_distinct (map package_id (plain_problem (plain_text bytes)).packages) ≡ true
+distinct_pairs mode bytes = by (is_utf8 bytes)
+  where
+    by : (b : Bool) → (if b then least (problem_faults (plain_text bytes) mode) else Some (utf8_fault bytes)) ≡ None → are_distinct (map package_id (plain_problem (plain_text bytes)).packages) ≡ true
+    by true none = pairs_of (plain_text bytes) mode (least-none (problem_faults (plain_text bytes) mode) none)
+    by false none = absurd (cc none)
+
+-- an answer with `Yes` is of the counts of a solution
+of_solution_alone : (P : List ℕ → Type 0) (answer_of : Criteria → Report) (s : Proposal) → (is_solution s ≡ true → (answer_of (criteria s)).outcome ≡ Yes → P (answer_of (criteria s)).text)
+    → (fails solves : Bool) → is_solution s ≡ solves → let r = judged_as answer_of (if fails then SaysFail else (if solves then Solution (criteria s) else NoSolution)) in r.outcome ≡ Yes → P r.text
+of_solution_alone P answer_of s holds true solves is h = absurd (cc h)
+of_solution_alone P answer_of s holds false true is h = holds is h
+of_solution_alone P answer_of s holds false false is h = absurd (cc h)
+
+counted : (P : List ℕ → Type 0) (style : Style) (mode : Mode) (answer_of : PlainProblem → Criteria → Report) (solution : List ℕ) (problem : PlainProblem)
+    → (let s = proposal_of problem (plain_text solution) in is_solution s ≡ true → (answer_of problem (criteria s)).outcome ≡ Yes → P (answer_of problem (criteria s)).text)
+    → let r = better_report style mode answer_of solution problem in r.outcome ≡ Yes → P r.text
+counted P style mode answer_of solution problem holds = by (solution_fault mode problem.extra_names solution)
+  where
+    by : (fault : Option Fault) → let r = faulty_or style of_solution (codes "solution") fault (judged_as (answer_of problem) (judgement problem solution)) in r.outcome ≡ Yes → P r.text
+    by (Some f) h = absurd (cc h)
+    by None h = let s = proposal_of problem (plain_text solution) in of_solution_alone P (answer_of problem) s holds (is_fail solution) (is_solution s) refl h
+
+module _ (s : Proposal) (distinct : are_distinct (map package_id s.problem.packages) ≡ true) (solution : is_solution s ≡ true) (aims : List Aim) where
+  abbrev cnf_of_better : PlainCnf
+  cnf_of_better = better_cnf s.problem (criteria s) aims
+
+  encodes_better : BetterSatisfies → let r = cnf_better aims s.problem (criteria s) in r.outcome ≡ Yes → EncodesBetter aims s r.text
+  encodes_better law = written (EncodesBetter aims s) (better_encodings.is_too_large s.problem (criteria s) aims) (with_yes (dimacs s.problem.packages cnf_of_better)) (λ small h. record {
+    cnf = cnf_of_better;
+    solution = solution;
+    printed = refl;
+    models = λ is_installed unknown better. law s.problem (criteria s) aims distinct small is_installed unknown better.0 better.1;
+  })
+
+  is_best : RefutedIsCore → RefutedIsBest → (style : Style) (proof : List ℕ) → let r = refute_better style aims proof s.problem (criteria s) in r.outcome ≡ Yes → IsBest aims s
+  is_best is_core law style proof =
+      written (λ text. IsBest aims s) (better_encodings.is_too_large s.problem (criteria s) aims) (checked_report style cnf_of_better (λ core. best_text aims (criteria s)) proof)
+      (λ small. by small (checked cnf_of_better.variables cnf_of_better.clauses proof) refl)
+    where
+      by : better_encodings.is_too_large s.problem (criteria s) aims ≡ false → (answer : PlainAnswer) → checked cnf_of_better.variables cnf_of_better.clauses proof ≡ answer
+          → let r = proof_report style (length cnf_of_better.clauses) (λ core. best_text aims (criteria s)) answer in r.outcome ≡ Yes → IsBest aims s
+      by small (faulty number kind) is h = absurd (cc h)
+      by small (refuted core) is h = record {
+        solution = solution;
+        best = λ is_installed unknown better. law s.problem (criteria s) aims distinct small core (is_core cnf_of_better.variables cnf_of_better.clauses proof core is) is_installed unknown better.0 better.1;
+      }
+
+-- ---- a run
+
+module _ (is_core : RefutedIsCore) (satisfies : SolutionSatisfies) (better : BetterSatisfies) (best : RefutedIsBest) where
+  report_means : (job : Job) (mode : Mode) (names : Names) (bytes : List ℕ) (others : List (List ℕ)) → let r = report job mode names bytes others in r.outcome ≡ Yes → Means job bytes others r.text
+  unfolding report
+  report_means (Lint explain) mode names bytes others ends = tt
+  report_means (Check after limit explain) mode names bytes others ends = tt
+  report_means (Score aims) mode names bytes others ends = tt
+  report_means (Rank aims) mode names bytes others ends = tt
+  report_means Cnf mode names bytes others ends =
+      let problem = plain_problem (plain_text bytes) in
+      answered (Encodes problem) plainly mode bytes cnf_answer (λ none. written (Encodes problem) (is_too_large problem) (with_yes (dimacs problem.packages (rules_of problem))) (λ small h. encodes satisfies problem)) ends
+  report_means (CnfBetter aims) mode names bytes others ends =
+      let problem = plain_problem (plain_text bytes) in
+      let solution = input_at others 0 in
+      let s = put_forward bytes solution in
+      let P = EncodesBetter aims.items s in
+      answered P plainly mode bytes (better_report plainly mode (cnf_better aims.items) solution)
+      (λ none. counted P plainly mode (cnf_better aims.items) solution problem (λ solves. encodes_better s (distinct_pairs mode bytes none) solves aims.items better)) ends
+  report_means (Refute explain) mode names bytes others ends =
+      let problem = plain_problem (plain_text bytes) in
+      let proof = input_at others 0 in
+      let style = refutation_style explain bytes proof in
+      let r = checked_report style (rules_of problem) (core_text style problem) proof in
+      let P = Refutes (refutation_style explain bytes []) problem in
+      answered P style mode bytes (refute_answer style proof)
+      (λ none. written P (is_too_large problem) r (λ small h. whatever_proof explain bytes proof r.text problem (refutes is_core style problem proof h))) ends
+  report_means (RefuteBetter aims) mode names bytes others ends =
+      let problem = plain_problem (plain_text bytes) in
+      let solution = input_at others 1 in
+      let answer_of = refute_better plainly aims.items (input_at others 0) in
+      let s = put_forward bytes solution in
+      let P : List ℕ → Type 0 = λ text. IsBest aims.items s in
+      answered P plainly mode bytes (better_report plainly mode answer_of solution)
+      (λ none. counted P plainly mode answer_of solution problem (λ solves. is_best s (distinct_pairs mode bytes none) solves aims.items is_core best plainly (input_at others 0))) ends
+
+  pub run_means : (job : Job) (mode : Mode) (names : Names) (first : Change SourceState) (others : List (Change SourceState)) (out : Change SinkState) (bytes : List ℕ) (texts : List (List ℕ)) (result : Result Outcome RunError)
+      → ReadsAll first bytes → AllZip ReadsAll others texts → Answers out.before out.after (report job mode names bytes texts) result → IfOk result (λ outcome. outcome ≡ Yes → HasWritten (Means job) first others out)
+  run_means job mode names first others out bytes texts (Err e) read reads answers = tt
+  run_means job mode names first others out bytes texts (Ok outcome) read reads answers = λ ends. record {
+    bytes = bytes;
+    texts = texts;
+    text = (report job mode names bytes texts).text;
+    read = read;
+    others_read = reads;
+    written = answers.ok.written;
+    holds = report_means job mode names bytes texts (sym answers.ok.answered ∙ ends);
+  }

@@ -1,5 +1,5 @@
 -- The first fault of a document, by its bytes and by its text, and the report where none is left.
-use Rattle.std.proofs.Common.{◌≡◌, ℕ, ◌-◌, ◌==◌, Bool, true, false, List, ◌++◌, map, length, slice_get, option_map, option_and_then, Option, Some, None, Result, Ok, Err, IfOk, IfErr, if◌then◌else◌, refl, subst, sym, ap, ◌∙◌, codes, ◌⊎◌, inl, inr, Vec, Global}
+use Rattle.std.proofs.Common.{◌≡◌, ℕ, ◌-◌, ◌==◌, Bool, true, false, List, ◌++◌, map, length, slice_get, option_map, option_and_then, Option, Some, None, Result, Ok, Err, IfOk, IfErr, IfSome, if◌then◌else◌, refl, subst, sym, ap, ◌∙◌, codes, ◌⊎◌, inl, inr, Vec, Global}
 use Rattle.std.proofs.lemmas.Option.{slice_get-map}
 use Rattle.std.specs.Str.{IsUtf8, is_utf8}
 use Rattle.std.proofs.lemmas.Str.{IsUtf8-from_is_utf8, is_utf8-from_IsUtf8}
@@ -20,23 +20,26 @@ use Rattle.cudf_problem.specs.Universe.{PlainPackage, PlainProblem}
 use Rattle.cudf_document.specs.Details.{stanza_line}
 use Rattle.cudf_job.specs.declared.aims.Aim.{Aim}
 use Rattle.cudf_job.specs.declared.job.Job.{Job}
-use Rattle.cudf_job.specs.declared.job.Job.TheVariants.{Lint, Check, Score, Cnf, Refute}
+use Rattle.cudf_job.specs.declared.job.Job.TheVariants.{Lint, Check, Score, Rank, Cnf, CnfBetter, Refute, RefuteBetter}
 use Rattle.cudf_job.specs.declared.key.Key.{Key}
 use Rattle.cudf_job.specs.KeyViews.{key_view}
 use Rattle.cudf_referee.specs.Proposals.{Proposal, proposal}
 use Rattle.cudf_referee.specs.Solutions.{is_solution}
 use Rattle.cudf_referee.specs.Violations.{listing, met_by}
 use Rattle.cudf_lrat.specs.Answers.{PlainAnswer, checked, faulty, refuted}
-use Rattle.cudf_cnf.specs.Cnf.{clauses_of, cnf}
+use Rattle.cudf_cnf.specs.Cnf.{clauses_of, cnf, is_too_large}
 use Rattle.cudf_device.specs.Outcomes.{Report}
 use Rattle.cudf_device.specs.declared.outcome.Outcome.TheVariants.{Fail}
-use Rattle.cudf_check.specs.JobStyles.{explains, inputs_style, pair_style, refutation_style}
+use Rattle.cudf_check.specs.BetterReport.{better_report, cnf_better, refute_better}
+use Rattle.cudf_check.specs.JobStyles.{explains, input_at, inputs_style, pair_style, refutation_style}
 use Rattle.cudf_check.specs.Explanations.{listed_in, listed_text, met_added}
-use Rattle.cudf_check.specs.Naming.{Names, PlainOrigin, PlainOrigins}
-use Rattle.cudf_check.specs.Report.{alone, check_text, verdict, faulty_or, problem_fault, solution_fault, proposal_of, judged_report, solution_report, inputs_report, proof_report, refute_answer, report, unless_too_large}
-use Rattle.cudf_check.specs.Styles.{Style, of_solution}
+use Rattle.cudf_check.specs.Naming.{Names, PlainOrigin, PlainOrigins, name_at, own_file}
+use Rattle.cudf_check.specs.JobReport.{inputs_report, report}
+use Rattle.cudf_check.specs.Report.{alone, check_text, core_text, verdict, faulty_or, problem_fault, solution_fault, proposal_of, judged_report, problem_report, solution_report, proof_report, refute_answer, unless_too_large}
+use Rattle.cudf_check.specs.Styles.{Style, of_solution, plainly}
 use Rattle.cudf_check.specs.Working.Found.{found_text}
-use Rattle.cudf_check.specs.Working.Named.{instance_style, listed_by, proof_style}
+use Rattle.cudf_check.specs.Working.Named.{instance_style, listed_by, other_names, proof_style}
+use Rattle.cudf_check.specs.declared.naming.Given.{Given}
 use Rattle.cudf_check.specs.Working.Unjudged.{IsFaultOf}
 use Rattle.cudf_check.proofs.PageLemmas.{no-page}
 
@@ -138,8 +141,11 @@ found_same (Check after limit flag) true origins problem solution lines s are = 
       added_to_instance = λ t i. met_added true (λ place. lines_say origins.solution s.problem (plain_text solution).stanzas lines (are refl some) place k) s i (met_by s.proposed i);
     }) (option_map key_view after) limit s
 found_same (Score aims) explain origins problem solution lines s are = refl
+found_same (Rank aims) explain origins problem solution lines s are = refl
 found_same Cnf explain origins problem solution lines s are = refl
+found_same (CnfBetter aims) explain origins problem solution lines s are = refl
 found_same (Refute flag) explain origins problem solution lines s are = refl
+found_same (RefuteBetter aims) explain origins problem solution lines s are = refl
 
 -- the same report
 pub judged_same : (job : Job) (explain : Bool) (origins : PlainOrigins) (problem solution : List ℕ) (lines : List (Option ℕ)) (s : Proposal)
@@ -150,22 +156,53 @@ judged_same job explain origins problem solution lines s are = λ k. record {
   outcome = (verdict (is_solution s)).outcome;
 }
 
+-- of the others only the first one's text and name count
+pub first_style : (mode : Mode) (explain : Bool) (found : Style → Proposal → List ℕ) (first : Option (List ℕ)) (names : List (Option (List ℕ))) (input : List ℕ) (second : Option Given) (text : Option (List ℕ))
+    → option_map (λ (g : Given). g.bytes.now) second ≡ text → IfSome second (λ g. option_map (λ n. n.now) g.name ≡ name_at names 1)
+    → (let bytes = option_map (λ (g : Given). g.bytes.now) second in let style = inputs_style explain (record { first = first; others = other_names second }) input bytes in inputs_report style mode (found style) input bytes)
+    ≡ (let style = inputs_style explain (record { first = first; others = names }) input text in inputs_report style mode (found style) input text)
+first_style mode explain found first names input None text is same =
+    λ k. let style = inputs_style explain (record { first = first; others = names }) input (is k) in inputs_report style mode (found style) input (is k)
+first_style mode explain found first names input (Some g) text is same =
+    (λ k. let style = pair_style explain (record { problem = own_file first; solution = own_file (same k) }) input g.bytes.now in inputs_report style mode (found style) input (Some g.bytes.now))
+    ∙ (λ k. let style = inputs_style explain (record { first = first; others = names }) input (is k) in inputs_report style mode (found style) input (is k))
+
 -- the report of inputs of which a solution is judged
-abbrev judged_inputs : Job → Mode → Names → List ℕ → Option (List ℕ) → Report
-judged_inputs job mode names input solution = let style = inputs_style (explains job) names input solution in inputs_report style mode (found_text job style) input solution
+abbrev judged_inputs : Job → Mode → Names → List ℕ → List (List ℕ) → Report
+judged_inputs job mode names input others = let style = inputs_style (explains job) names input (slice_get others 0) in inputs_report style mode (found_text job style) input (slice_get others 0)
 
 -- a job that judges a solution has it
-pub pair_of : (job : Job) (mode : Mode) (names : Names) (input : List ℕ) (solution : Option (List ℕ))
+pub pair_of : (job : Job) (mode : Mode) (names : Names) (input : List ℕ) (others : List (List ℕ))
     → ((after : Option Key) × (limit : Option ℕ) × (explain : Bool) × (job ≡ Check after limit explain)) ⊎ ((aims : Option (Vec Aim Global)) × (job ≡ Score aims))
-    → judged_inputs job mode names input solution ≡ report job mode names input solution
+    → judged_inputs job mode names input others ≡ report job mode names input others
 unfolding report
-pair_of job mode names input solution (inl check) = subst (λ j. judged_inputs j mode names input solution ≡ report j mode names input solution) (sym check.3) refl
-pair_of job mode names input solution (inr score) = subst (λ j. judged_inputs j mode names input solution ≡ report j mode names input solution) (sym score.1) refl
+pair_of job mode names input others (inl check) = subst (λ j. judged_inputs j mode names input others ≡ report j mode names input others) (sym check.3) refl
+pair_of job mode names input others (inr score) = subst (λ j. judged_inputs j mode names input others ≡ report j mode names input others) (sym score.1) refl
+
+-- and so does one that asks for a better solution
+pub cnf_better_of : (aims : Vec Aim Global) (job : Job) (mode : Mode) (names : Names) (input : List ℕ) (others : List (List ℕ)) → job ≡ CnfBetter aims
+    → (list : List Aim) → list ≡ aims.items → (solution : List ℕ) → solution ≡ input_at others 0
+    → problem_report plainly mode input (better_report plainly mode (cnf_better list) solution) ≡ report job mode names input others
+unfolding report
+cnf_better_of aims job mode names input others is list list_is solution solution_is =
+    (λ k. problem_report plainly mode input (better_report plainly mode (cnf_better (list_is k)) (solution_is k)))
+    ∙ subst (λ j. problem_report plainly mode input (better_report plainly mode (cnf_better aims.items) (input_at others 0)) ≡ report j mode names input others) (sym is) refl
+
+pub refute_better_of : (aims : Vec Aim Global) (job : Job) (mode : Mode) (names : Names) (input : List ℕ) (others : List (List ℕ)) → job ≡ RefuteBetter aims
+    → (list : List Aim) → list ≡ aims.items → (proof : List ℕ) → proof ≡ input_at others 0 → (solution : List ℕ) → solution ≡ input_at others 1
+    → problem_report plainly mode input (better_report plainly mode (refute_better plainly list proof) solution) ≡ report job mode names input others
+unfolding report
+refute_better_of aims job mode names input others is list list_is proof proof_is solution solution_is =
+    (λ k. problem_report plainly mode input (better_report plainly mode (refute_better plainly (list_is k) (proof_is k)) (solution_is k)))
+    ∙ subst (λ j. problem_report plainly mode input (better_report plainly mode (refute_better plainly aims.items (input_at others 0)) (input_at others 1)) ≡ report j mode names input others) (sym is) refl
 
 -- the same of what is answered of a proof
+abbrev answered_by : PlainProblem → Style → PlainAnswer → Report
+answered_by problem style = proof_report style (length (clauses_of (cnf problem))) (core_text style problem)
+
 pub refuted_same : (explain : Bool) (bytes proof : List ℕ) (problem : PlainProblem) → refute_answer (proof_style explain proof) proof problem ≡ refute_answer (refutation_style explain bytes proof) proof problem
-refuted_same explain bytes proof problem = ap (unless_too_large problem) (by (checked (length problem.packages) (clauses_of (cnf problem)) proof))
+refuted_same explain bytes proof problem = ap (unless_too_large (is_too_large problem)) (by (checked (length problem.packages) (clauses_of (cnf problem)) proof))
   where
-    by : (answer : PlainAnswer) → proof_report (proof_style explain proof) problem answer ≡ proof_report (refutation_style explain bytes proof) problem answer
+    by : (answer : PlainAnswer) → answered_by problem (proof_style explain proof) answer ≡ answered_by problem (refutation_style explain bytes proof) answer
     by (faulty number kind) = refl
     by (refuted core) = refl

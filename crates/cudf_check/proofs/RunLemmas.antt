@@ -1,11 +1,7 @@
 -- A run: how it ends where its reading does, and where that went well.
-use Rattle.std.proofs.Common.{◌≡◌, ◌↔◌, ◌⊎◌, inl, inr, ℕ, zero, suc, Bool, List, [], ◌∷◌, Option, Vec, Global, Result, Ok, Err, IsErr, IsErrAnd, IsErrOf, refl, sym, ap, ◌∙◌, arith}
-use Rattle.std.specs.List.{All, AllZip}
+use Rattle.std.proofs.Common.{◌≡◌, ◌↔◌, ◌⊎◌, inl, inr, ℕ, List, Result, Ok, Err, IsErr, IsErrAnd, IsErrOf, refl, sym, ap, ◌∙◌}
+use Rattle.std.specs.List.{AllZip}
 use Rattle.std.proofs.KnownBytes.{Keeps-refl}
-use Rattle.cudf_job.specs.declared.aims.Aim.{Aim}
-use Rattle.cudf_job.specs.declared.key.Key.{Key}
-use Rattle.cudf_job.specs.declared.job.Job.{Job}
-use Rattle.cudf_job.specs.declared.job.Job.TheVariants.{Lint, Check, Score, Cnf, Refute}
 use Rattle.cudf_device.specs.declared.outcome.Outcome.{Outcome}
 use Rattle.cudf_device.specs.declared.outcome.RunError.{RunError}
 use Rattle.cudf_device.specs.declared.outcome.RunError.TheVariants.{Read, TooLong, Write, Memory}
@@ -13,7 +9,7 @@ use Rattle.cudf_device.specs.Device.{SourceState, SinkState, failed_writes}
 use Rattle.cudf_device.specs.Readers.{Change, ReadsAll, IsUnfinished, IsTooLong, StopsInTime, OfOne}
 use Rattle.cudf_check.specs.Naming.{Names, names_of}
 use Rattle.cudf_device.specs.Outcomes.{Report}
-use Rattle.cudf_check.specs.Runs.{HoldsOfReport, Runs, read_for}
+use Rattle.cudf_check.specs.Runs.{HoldsOfReport, Runs}
 use Rattle.cudf_device.specs.Promises.Answering.{Answers}
 use Rattle.cudf_device.proofs.CallLemmas.{none_more}
 use Rattle.cudf_device.proofs.CommonLemmas.{none_below, same_error}
@@ -48,34 +44,6 @@ first_stopped answer first others out reading e (Err y) none_long none_unfinishe
     long_back : y ≡ e → IsTooLong first ⊎ OfOne IsTooLong others → IsErrOf {T = Outcome} (Err y) TooLong
     long_back error (inl h) = ap Err (error ∙ same_error (sym is ∙ too_long.1 h))
     long_back error (inr h) = absurd (none_long h)
-
--- the reading of a second input ended in an error, and so did the run
-pub second_stopped : {T : Type 0} (answer : Names → List ℕ → List (List ℕ) → Report) (first : Change SourceState) (text : List ℕ) (second : Change SourceState) (out : SinkState)
-    (reading : Result T RunError) (e : RunError) (result : Result Outcome RunError) → WasRead first text → reading ≡ Err e
-    → (IsErrOf reading TooLong ↔ IsTooLong second) → (IsErrOf reading Read ↔ IsUnfinished second) → (reading ≡ Err Write → ⊥)
-    → IsErr result × IsErrAnd result (λ y. y ≡ e) → Runs answer first (second ∷ []) (still out) result
-second_stopped answer first text second out reading e (Ok outcome) was is too_long unfinished no_write same = absurd same.1
-second_stopped answer first text second out reading e (Err y) was is too_long unfinished no_write same =
-    let error : y ≡ e = same.1 in
-    record {
-      done = tt;
-      cut_short = λ h. absurd (no_write (is ∙ ap Err (sym error ∙ same_error h)));
-      untouched = λ other. Keeps-refl out.contents;
-      read = (λ h. inr (inl (unfinished.0 (is ∙ ap Err (sym error ∙ same_error h)))), read_back error);
-      too_long = (λ h. inr (inl (too_long.0 (is ∙ ap Err (sym error ∙ same_error h)))), long_back error);
-      write = (λ h. absurd (no_write (is ∙ ap Err (sym error ∙ same_error h))), λ below. absurd (none_below out.failures out.failures refl below));
-      stops = none_more failed_writes out.failures out.last;
-    }
-  where
-    read_back : y ≡ e → IsUnfinished first ⊎ OfOne IsUnfinished (second ∷ []) → IsErrOf {T = Outcome} (Err y) Read
-    read_back error (inl h) = absurd (was.finished h)
-    read_back error (inr (inl h)) = ap Err (error ∙ same_error (sym is ∙ unfinished.1 h))
-    read_back error (inr (inr h)) = absurd h
-
-    long_back : y ≡ e → IsTooLong first ⊎ OfOne IsTooLong (second ∷ []) → IsErrOf {T = Outcome} (Err y) TooLong
-    long_back error (inl h) = absurd (was.short h)
-    long_back error (inr (inl h)) = ap Err (error ∙ same_error (sym is ∙ too_long.1 h))
-    long_back error (inr (inr h)) = absurd h
 
 -- readers that were read to their ends, none of them with an error
 pub record WereRead (others : List (Change SourceState)) (texts : List (List ℕ)) : Type 0 where
@@ -129,8 +97,6 @@ module _ (answer : Names → List ℕ → List (List ℕ) → Report) (first : C
     stops = m.stops;
   }
 
--- ---- one reader after the first
-
 -- a reading that ended well
 pub was_read : {T : Type 0} (reader : Change SourceState) (bytes : List ℕ) (v : T) → ReadsAll reader bytes
     → (IsErrOf {T = T} {E = RunError} (Ok v) TooLong ↔ IsTooLong reader) → (IsErrOf {T = T} {E = RunError} (Ok v) Read ↔ IsUnfinished reader) → StopsInTime reader → WasRead reader bytes
@@ -140,44 +106,3 @@ was_read reader bytes v all too_long unfinished calls = record {
   short = λ h. absurd (cc (too_long.1 h));
   calls = calls;
 }
-
--- one comes after it
-pub one_behind : (reader : Change SourceState) (bytes : List ℕ) → WasRead reader bytes → WereRead (reader ∷ []) (bytes ∷ [])
-one_behind reader bytes was = record { all = (was.all, tt); finished = finished; short = short }
-  where
-    finished : OfOne IsUnfinished (reader ∷ []) → ⊥
-    finished (inl h) = was.finished h
-    finished (inr h) = absurd h
-
-    short : OfOne IsTooLong (reader ∷ []) → ⊥
-    short (inl h) = was.short h
-    short (inr h) = absurd h
-
--- a job that judges a solution or checks a proof reads it
-pub reads_it : (job : Job) (solutions : List (Change SourceState))
-    → ((after : Option Key) × (limit : Option ℕ) × (explain : Bool) × (job ≡ Check after limit explain)) ⊎ (((aims : Option (Vec Aim Global)) × (job ≡ Score aims)) ⊎ ((explain : Bool) × (job ≡ Refute explain)))
-    → read_for job solutions ≡ solutions
-reads_it job solutions (inl check) = ap (λ j. read_for j solutions) check.3
-reads_it job solutions (inr (inl score)) = ap (λ j. read_for j solutions) score.1
-reads_it job solutions (inr (inr refute)) = ap (λ j. read_for j solutions) refute.1
-
--- where there is none, it reads none
-pub reads_none : (job : Job) → read_for job [] ≡ []
-reads_none (Lint explain) = refl
-reads_none (Check after limit explain) = refl
-reads_none (Score aims) = refl
-reads_none Cnf = refl
-reads_none (Refute explain) = refl
-
--- what holds of none of the readers holds of none that the job reads
-pub none_for : (P : Change SourceState → Type 0) (job : Job) (solutions : List (Change SourceState)) → (OfOne P solutions → ⊥) → OfOne P (read_for job solutions) → ⊥
-none_for P (Lint explain) solutions none h = absurd h
-none_for P (Check after limit explain) solutions none h = none h
-none_for P (Score aims) solutions none h = none h
-none_for P Cnf solutions none h = absurd h
-none_for P (Refute explain) solutions none h = none h
-
--- this holds of one, and so of all
-pub of_one : {A : Type 0} (P : A → Type 0) (x : A) → P x → All P (x ∷ [])
-of_one P x h zero d below = h
-of_one P x h (suc k) d below = absurd (omega arith)

@@ -1,13 +1,13 @@
 -- Without explanation and names a job is told plainly.
-use Rattle.std.proofs.Common.{◌≡◌, ◌∙◌, ℕ, Bool, false, List, [], ◌∷◌, Option, Some, None, unwrap_or, refl, ap, arith}
+use Rattle.std.proofs.Common.{◌≡◌, ◌∙◌, ℕ, Bool, false, List, [], ◌∷◌, Option, Some, None, slice_get, refl, ap, arith}
 use Rattle.std.specs.List.{All}
 use Rattle.cudf_text.specs.Joined.{problem_part, solution_part}
 use Rattle.cudf_text.specs.Stanzas.{plain_text}
-use Rattle.cudf_job.specs.declared.job.Job.TheVariants.{Lint, Check, Score, Cnf, Refute}
+use Rattle.cudf_job.specs.declared.job.Job.TheVariants.{Lint, Check, Score, Rank, Cnf, CnfBetter, Refute, RefuteBetter}
 use Rattle.cudf_check.specs.Explanations.{detail_added, instance_added, listed_in}
-use Rattle.cudf_check.specs.JobStyles.{by_document, detail_if, document_style, inputs_style, pair_style, refutation_style}
+use Rattle.cudf_check.specs.JobStyles.{by_document, detail_if, document_style, input_at, inputs_style, named_style, pair_style, refutation_style}
 use Rattle.cudf_check.specs.Naming.{Names, PlainOrigins, name_at, named_before, numbered, one_file, origin_of, own_file}
-use Rattle.cudf_check.specs.Report.{IsToldPlainly, report, styled_report}
+use Rattle.cudf_check.specs.JobReport.{IsToldPlainly, report, styled_report}
 use Rattle.cudf_check.specs.Styles.{Document, of_problem, of_solution, plainly}
 
 -- ---- no names
@@ -46,10 +46,13 @@ plain_inputs names input (Some solution) explain is first others =
 
 pub told_plainly : IsToldPlainly
 unfolding report
-told_plainly (Lint explain) mode names input solution is first others = λ k. styled_report (document_style (is k) (own_file (first k)) input) (Lint explain) mode input solution
-told_plainly (Check after limit explain) mode names input solution is first others =
-    ap (λ style. styled_report style (Check after limit explain) mode input solution) (plain_inputs names input solution explain is first others)
-told_plainly (Score aims) mode names input solution is first others =
-    ap (λ style. styled_report style (Score aims) mode input solution) (plain_inputs names input solution false refl first others)
-told_plainly Cnf mode names input solution is first others = refl
-told_plainly (Refute explain) mode names input solution is first others = λ k. styled_report (refutation_style (is k) input (unwrap_or solution [])) (Refute explain) mode input solution
+told_plainly (Lint explain) mode names input others is first none = λ k. styled_report (document_style (is k) (own_file (first k)) input) (Lint explain) mode names input others
+told_plainly (Check after limit explain) mode names input others is first none =
+    ap (λ style. styled_report style (Check after limit explain) mode names input others) (plain_inputs names input (slice_get others 0) explain is first none)
+told_plainly (Score aims) mode names input others is first none =
+    ap (λ style. styled_report style (Score aims) mode names input others) (plain_inputs names input (slice_get others 0) false refl first none)
+told_plainly (Rank aims) mode names input others is first none = λ k. styled_report (named_style (own_file (first k))) (Rank aims) mode names input others
+told_plainly Cnf mode names input others is first none = refl
+told_plainly (CnfBetter aims) mode names input others is first none = refl
+told_plainly (Refute explain) mode names input others is first none = λ k. styled_report (refutation_style (is k) input (input_at others 0)) (Refute explain) mode names input others
+told_plainly (RefuteBetter aims) mode names input others is first none = refl

@@ -1,11 +1,11 @@
 -- The style that a job asks for by `--explain`, and its readers by their names: own.
-use Rattle.std.specs.Prelude.{ℕ, Bool, false, List, [], Option, Some, None, unwrap_or, if◌then◌else◌}
+use Rattle.std.specs.Prelude.{ℕ, Bool, false, List, [], Option, Some, None, slice_get, unwrap_or, if◌then◌else◌}
 use Rattle.cudf_text.specs.declared.fault.Fault.{Fault}
 use Rattle.cudf_text.specs.Joined.{problem_part, solution_part}
 use Rattle.cudf_text.specs.Stanzas.{plain_text}
 use Rattle.cudf_document.specs.Details.{PlainDetail, fault_detail}
 use Rattle.cudf_job.specs.declared.job.Job.{Job}
-use Rattle.cudf_job.specs.declared.job.Job.TheVariants.{Lint, Check, Score, Cnf, Refute}
+use Rattle.cudf_job.specs.declared.job.Job.TheVariants.{Lint, Check, Score, Rank, Refute}
 use Rattle.cudf_check.specs.Explanations.{listed_in, instance_added, reason_added, detail_added}
 use Rattle.cudf_check.specs.Naming.{Names, PlainOrigin, PlainOrigins, named_before, numbered, one_file, origin_of, own_file, own_files}
 use Rattle.cudf_check.specs.ProofDetails.{proof_added}
@@ -15,9 +15,12 @@ use Rattle.cudf_check.specs.Styles.{Document, of_problem, of_solution, Style, pl
 abbrev pub explains : Job → Bool
 explains (Lint explain) = explain
 explains (Check after limit explain) = explain
-explains (Score aims) = false
-explains Cnf = false
 explains (Refute explain) = explain
+explains _ = false
+
+-- the input at an index among the others, empty where there is none
+abbrev pub input_at : List (List ℕ) → ℕ → List ℕ
+input_at others index = unwrap_or (slice_get others index) []
 
 -- what a document says beside a fault of it, where lines are explained
 abbrev pub detail_if : Bool → List ℕ → Fault → Option PlainDetail
@@ -55,9 +58,10 @@ inputs_style explain names input None = pair_style explain (one_file (problem_pa
 inputs_style explain names input (Some solution) = pair_style explain (own_files names) input solution
 
 -- the job's; of a CNF no line names a file
-abbrev pub style_of : Job → Names → List ℕ → Option (List ℕ) → Style
-style_of (Lint explain) names input solution = document_style explain (own_file names.first) input
-style_of (Check after limit explain) names input solution = inputs_style explain names input solution
-style_of (Score aims) names input solution = inputs_style false names input solution
-style_of Cnf names input solution = document_style false None input
-style_of (Refute explain) names input proof = refutation_style explain input (unwrap_or proof [])
+abbrev pub style_of : Job → Names → List ℕ → List (List ℕ) → Style
+style_of (Lint explain) names input others = document_style explain (own_file names.first) input
+style_of (Check after limit explain) names input others = inputs_style explain names input (slice_get others 0)
+style_of (Score aims) names input others = inputs_style false names input (slice_get others 0)
+style_of (Rank aims) names input others = named_style (own_file names.first)
+style_of (Refute explain) names input others = refutation_style explain input (input_at others 0)
+style_of _ names input others = plainly

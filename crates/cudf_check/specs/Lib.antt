@@ -1,4 +1,6 @@
+pub mod BetterReport
 pub mod Explanations
+pub mod JobReport
 pub mod JobStyles
 pub mod Meanings
 pub mod Naming

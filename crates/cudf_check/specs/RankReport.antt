@@ -1,4 +1,4 @@
--- The report of a ranking: a function of the aims, the problem and its solutions to a text and an outcome. Own.
+-- The ranking of solutions: a function of the aims, the problem and its solutions to a text and an outcome. Own.
 use Rattle.std.specs.Prelude.{ℕ, Bool, ◌==◌, List, [], ◌∷◌, ◌++◌, map, codes, decimal, Option, None, Some, option_map, IsTrue, if◌then◌else◌}
 use Rattle.std.specs.List.{flat_map, filter_map, list_any, enumerate_from}
 use Rattle.cudf_problem.specs.declared.mode.Mode.{Mode}
@@ -14,10 +14,10 @@ use Rattle.cudf_job.specs.declared.aims.Aim.{Aim}
 use Rattle.cudf_job.specs.declared.criteria.Criteria.{Criteria}
 use Rattle.cudf_job.specs.Ranking.{class, have_own_places, ranking}
 use Rattle.cudf_check.specs.JobStyles.{named_style}
-use Rattle.cudf_check.specs.Naming.{Names, name_at, own_file}
+use Rattle.cudf_check.specs.Naming.{name_at, own_file}
 use Rattle.cudf_check.specs.Shown.{shown}
 use Rattle.cudf_check.specs.Styles.{of_solution}
-use Rattle.cudf_check.specs.Report.{line, faulty, problem_report, solution_fault, proposal_of}
+use Rattle.cudf_check.specs.Report.{line, faulty, solution_fault, proposal_of}
 use Rattle.cudf_device.specs.Outcomes.{Report}
 use Rattle.cudf_device.specs.declared.outcome.Outcome.{Outcome}
 use Rattle.cudf_device.specs.declared.outcome.Outcome.TheVariants.{Yes, No, Fail}
@@ -112,10 +112,6 @@ first_faulty_or names ((place, f) ∷ others) report = let name = name_at names 
 -- solutions of a problem that has no fault: the fault of the first faulty one, or else the ranking
 abbrev pub solutions_report : List Aim → Mode → List (Option (List ℕ)) → PlainProblem → List (List ℕ) → Report
 solutions_report aims mode names problem solutions = first_faulty_or names (placed_faults mode problem solutions) (ranked_report aims names (entrants problem solutions))
-
--- a problem and solutions: the problem's fault, or else the solutions' report
-unfoldable pub rank_report : List Aim → Mode → Names → List ℕ → List (List ℕ) → Report
-rank_report aims mode names problem solutions = problem_report (named_style (own_file names.first)) mode problem (λ p. solutions_report aims mode names.others p solutions)
 
 -- ---- what makes the laws over rankings hold of it
 

@@ -1,5 +1,5 @@
--- The report of a run: a function of the job and the inputs to a text and an outcome. Own.
-use Rattle.std.specs.Prelude.{◌≡◌, All, ℕ, ◌-◌, Bool, false, List, [], ◌∷◌, ◌++◌, length, map, filter_map, take, slice_get, codes, decimal, Option, Some, None, unwrap_or, option_map, option_and_then, if◌then◌else◌}
+-- What is answered of a problem and a solution: texts and outcomes. Own.
+use Rattle.std.specs.Prelude.{◌≡◌, ℕ, ◌-◌, Bool, List, [], ◌∷◌, ◌++◌, length, map, filter_map, take, slice_get, codes, decimal, Option, Some, None, option_and_then, if◌then◌else◌}
 use Rattle.std.specs.List.{flat_map, last_or, enumerate_from}
 use Rattle.std.specs.Option.{option_map_or}
 use Rattle.std.specs.Str.{is_utf8}
@@ -7,7 +7,7 @@ use Rattle.cudf_text.specs.declared.fault.Fault.{Fault}
 use Rattle.cudf_text.specs.Faults.{fault_text}
 use Rattle.cudf_text.specs.Stanzas.{PlainText, plain_text}
 use Rattle.cudf_text.specs.LineFaults.{utf8_fault}
-use Rattle.cudf_text.specs.Joined.{problem_part, solution_part, is_fail}
+use Rattle.cudf_text.specs.Joined.{is_fail}
 use Rattle.cudf_value.specs.Vpkgs.{PlainVpkg}
 use Rattle.cudf_value.specs.Printing.{vpkg_text, clause_text}
 use Rattle.cudf_problem.specs.declared.mode.Mode.{Mode}
@@ -29,22 +29,18 @@ use Rattle.cudf_job.specs.Vectors.{paranoid, trendy}
 use Rattle.cudf_referee.specs.Criteria.{criteria}
 use Rattle.cudf_problem.specs.Documents.{is_empty}
 use Rattle.cudf_job.specs.Keys.{PlainKey, key_text}
-use Rattle.cudf_job.specs.KeyViews.{key_view}
 use Rattle.cudf_referee.specs.Instances.{PlainWhat, needs, conflicts_with, keep_version, keep_package, keep_feature, install, remove, upgrade, unknown, PlainInstance}
 use Rattle.cudf_referee.specs.Proposals.{Proposal, proposal}
 use Rattle.cudf_referee.specs.Violations.{instance_of, listing, met_by, rest}
 use Rattle.cudf_referee.specs.Solutions.{is_solution}
 use Rattle.cudf_lrat.specs.Answers as lrat
 use Rattle.cudf_lrat.specs.Kinds.{kind_text}
+use Rattle.cudf_lrat.specs.Literals.{PlainCnf}
 use Rattle.cudf_lrat.specs.declared.cnf.Literal.{Literal}
 use Rattle.cudf_cnf.specs.Cnf.{Keyed, cnf, clauses_of, is_too_large}
 use Rattle.cudf_reasons.specs.Reasons.{reasons_of}
 use Rattle.cudf_reasons.specs.Views.{Told, told_as}
-use Rattle.cudf_check.specs.JobStyles.{explains, style_of}
-use Rattle.cudf_check.specs.Naming.{Names}
-use Rattle.cudf_check.specs.Styles.{Document, of_problem, of_solution, Style, document_of, plainly}
-use Rattle.cudf_job.specs.declared.job.Job.{Job}
-use Rattle.cudf_job.specs.declared.job.Job.TheVariants.{Lint, Check, Score, Cnf, Refute}
+use Rattle.cudf_check.specs.Styles.{Document, of_problem, of_solution, Style, document_of}
 use Rattle.cudf_device.specs.Outcomes.{Report}
 use Rattle.cudf_device.specs.declared.outcome.Outcome.{Outcome}
 use Rattle.cudf_device.specs.declared.outcome.Outcome.TheVariants.{Yes, No, Faulty, Fail, TooLarge}
@@ -201,9 +197,13 @@ pair_report style mode found problem solution = problem_report style mode proble
 
 -- ---- CNFs
 
+-- this text, with `Yes`
+abbrev pub with_yes : List ℕ → Report
+with_yes text = record { text = text; outcome = Yes }
+
 -- nothing is written of a CNF that is too large
-abbrev pub unless_too_large : PlainProblem → Report → Report
-unless_too_large problem report = if is_too_large problem then (record { text = []; outcome = TooLarge }) else report
+abbrev pub unless_too_large : Bool → Report → Report
+unless_too_large large report = if large then (record { text = []; outcome = TooLarge }) else report
 
 -- a comment for a package, as `c p1 car 1`
 abbrev pub package_comment : Placed → List ℕ
@@ -221,12 +221,16 @@ literal_text l = (if l.positive then [] else codes "-") ++ decimal l.variable ++
 abbrev pub clause_line : List Literal → List ℕ
 clause_line literals = line (flat_map literal_text literals ++ codes "0")
 
--- clauses over packages in DIMACS
-abbrev pub dimacs : List PlainPackage → List (List Literal) → List ℕ
-dimacs packages clauses = flat_map package_comment (enumerate_from 1 packages) ++ header_line (length packages) (length clauses) ++ flat_map clause_line clauses
+-- clauses in DIMACS, whose first variables are packages
+abbrev pub dimacs : List PlainPackage → PlainCnf → List ℕ
+dimacs packages cnf = flat_map package_comment (enumerate_from 1 packages) ++ header_line cnf.variables (length cnf.clauses) ++ flat_map clause_line cnf.clauses
+
+-- the clauses of a problem over its packages
+abbrev pub rules_of : PlainProblem → PlainCnf
+rules_of problem = record { variables = length problem.packages; clauses = clauses_of (cnf problem) }
 
 abbrev pub cnf_answer : PlainProblem → Report
-cnf_answer problem = unless_too_large problem (record { text = dimacs problem.packages (clauses_of (cnf problem)); outcome = Yes })
+cnf_answer problem = unless_too_large (is_too_large problem) (with_yes (dimacs problem.packages (rules_of problem)))
 
 -- ---- refutations
 
@@ -256,34 +260,15 @@ needed clauses numbers = filter_map (λ n. slice_get clauses (n - 1)) numbers
 abbrev pub core_text : Style → PlainProblem → List ℕ → List ℕ
 core_text style problem core = flat_map (told_line style problem) (map told_as (reasons_of (needed (cnf problem) core))) ++ line (codes "no solution exists")
 
--- what comes of a proof: the line of its first fault, or the core
-abbrev pub proof_report : Style → PlainProblem → lrat.PlainAnswer → Report
-proof_report style problem (lrat.faulty number kind) =
-    alone (codes "proof line " ++ decimal number ++ codes ": " ++ kind_text kind ++ style.added_to_proof (length (clauses_of (cnf problem))) number kind) No
-proof_report style problem (lrat.refuted core) = record { text = core_text style problem core; outcome = Yes }
+-- what comes of a proof: the line of its first fault; or else what is said of the clauses that it needs
+abbrev pub proof_report : Style → ℕ → (List ℕ → List ℕ) → lrat.PlainAnswer → Report
+proof_report style clauses found (lrat.faulty number kind) =
+    alone (codes "proof line " ++ decimal number ++ codes ": " ++ kind_text kind ++ style.added_to_proof clauses number kind) No
+proof_report style clauses found (lrat.refuted core) = with_yes (found core)
+
+-- of a proof against a CNF
+abbrev pub checked_report : Style → PlainCnf → (List ℕ → List ℕ) → List ℕ → Report
+checked_report style cnf found proof = proof_report style (length cnf.clauses) found (lrat.checked cnf.variables cnf.clauses proof)
 
 abbrev pub refute_answer : Style → List ℕ → PlainProblem → Report
-refute_answer style proof problem = unless_too_large problem (proof_report style problem (lrat.checked (length problem.packages) (clauses_of (cnf problem)) proof))
-
--- ---- the report
-
--- the second input is the solution; where there is none, the first one is cut
-abbrev pub inputs_report : Style → Mode → (Proposal → List ℕ) → List ℕ → Option (List ℕ) → Report
-inputs_report style mode found input None = pair_report style mode found (problem_part input) (solution_part input)
-inputs_report style mode found input (Some solution) = pair_report style mode found input solution
-
-abbrev pub styled_report : Style → Job → Mode → List ℕ → Option (List ℕ) → Report
-styled_report style (Lint explain) mode input solution = faulty_or style of_problem (codes "problem") (problem_fault mode input) (alone (codes "problem ok") Yes)
-styled_report style (Check after limit explain) mode input solution = inputs_report style mode (check_text style (option_map key_view after) limit) input solution
-styled_report style (Score aims) mode input solution = inputs_report style mode (scored_text (option_map (λ list. list.items) aims)) input solution
-styled_report style Cnf mode input solution = problem_report style mode input cnf_answer
-styled_report style (Refute explain) mode input proof = problem_report style mode input (refute_answer style (unwrap_or proof []))
-
--- in the style for which the job and the names of the inputs ask
-unfoldable pub report : Job → Mode → Names → List ℕ → Option (List ℕ) → Report
-report job mode names input solution = styled_report (style_of job names input solution) job mode input solution
-
--- a job that asks for no explanation, and whose inputs have no names, is told plainly
-abbrev pub IsToldPlainly : Type 0
-IsToldPlainly = (job : Job) (mode : Mode) (names : Names) (input : List ℕ) (solution : Option (List ℕ)) → explains job ≡ false
-    → names.first ≡ None → All (λ name. name ≡ None) names.others → report job mode names input solution ≡ styled_report plainly job mode input solution
+refute_answer style proof problem = unless_too_large (is_too_large problem) (checked_report style (rules_of problem) (core_text style problem) proof)

@@ -1,23 +1,15 @@
 -- A run: what it does to its readers and its writer, and what it answers.
-use Rattle.std.specs.Prelude.{◌≡◌, ◌≢◌, ◌<◌, ◌⊎◌, ◌↔◌, ℕ, List, [], ◌∷◌, slice_get, Option, Some, None, Result, IfOk, IfErr, IsErrOf}
+use Rattle.std.specs.Prelude.{◌≡◌, ◌≢◌, ◌<◌, ◌⊎◌, ◌↔◌, ℕ, List, Result, IfOk, IfErr, IsErrOf}
 use Rattle.std.specs.List.{AllZip}
-use Rattle.std.proofs.Common.{inl, inr}
-use Rattle.std.specs.Borrow.{MutBor}
 use Rattle.std.specs.Io.KnownBytes.{Appends, Keeps}
-use Rattle.cudf_problem.specs.declared.mode.Mode.{Mode}
 use Rattle.cudf_device.specs.Device.{SourceState, SinkState}
-use Rattle.cudf_device.specs.Readers.{Change, ReadsAll, IsUnfinished, IsTooLong, IsStopped, OfOne}
+use Rattle.cudf_device.specs.Readers.{Change, ReadsAll, IsUnfinished, IsTooLong, OfOne}
 use Rattle.cudf_device.specs.Writers.{AppendsPrefix, StopsWriting}
 use Rattle.cudf_device.specs.Outcomes.{Report}
 use Rattle.cudf_check.specs.Naming.{Names, names_of}
-use Rattle.cudf_check.specs.Report.{report}
-use Rattle.cudf_job.specs.declared.job.Job.{Job}
-use Rattle.cudf_job.specs.declared.job.Job.TheVariants.{Lint, Cnf}
 use Rattle.cudf_device.specs.declared.outcome.Outcome.{Outcome}
 use Rattle.cudf_device.specs.declared.outcome.RunError.{RunError}
 use Rattle.cudf_device.specs.declared.outcome.RunError.TheVariants.{Read, TooLong, Write}
-
--- ---- the run
 
 -- the first input and the others were read whole, and this holds of the report of their names and texts
 pub record HoldsOfReport (report_of : Names → List ℕ → List (List ℕ) → Report) (first : Change SourceState) (others : List (Change SourceState)) (P : Report → Type 0) : Type 0 where
@@ -42,31 +34,3 @@ pub record Runs (report_of : Names → List ℕ → List (List ℕ) → Report) 
   -- `Write` exactly where a write failed
   pub write : IsErrOf result Write ↔ (out.before.failures < out.after.failures)
   pub stops : StopsWriting out
-
--- ---- a job's run
-
--- the report of a job on an input, and on the solution, where there is one
-abbrev pub job_report : Job → Mode → Names → List ℕ → List (List ℕ) → Report
-job_report job mode names input solutions = report job mode names input (slice_get solutions 0)
-
--- the reader of a solution or a proof, where there is one and the job reads it
-abbrev pub read_for : Job → List (Change SourceState) → List (Change SourceState)
-read_for (Lint explain) solutions = []
-read_for Cnf solutions = []
-read_for _ solutions = solutions
-
--- the solution isn't read: the job needs none, or the first input wasn't read whole
-abbrev pub SkipsSolution : Job → Change SourceState → Type 0
-SkipsSolution (Lint explain) input = Unit {0}
-SkipsSolution Cnf input = Unit {0}
-SkipsSolution _ input = IsStopped input
-
--- the device of an optional reference, if there is one, as it was lent
-abbrev pub lent : {D : Type 0} → Option (MutBor D) → List D
-lent None = []
-lent (Some r) = r.now ∷ []
-
--- and as it is returned, in the form that the toolchain gives an optional reference
-abbrev pub returned : {D : Type 0} → Unit {0} ⊎ ((MutBor D × Unit {0}) ⊎ ⊥) → List D
-returned (inr (inl r)) = r.0.now ∷ []
-returned _ = []

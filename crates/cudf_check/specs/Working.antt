@@ -1,3 +1,4 @@
+pub mod Bettered
 pub mod Found
 pub mod Judged
 pub mod Named

@@ -10,6 +10,10 @@ pub(crate) fn explains(job: &Job) -> bool
 {
     match job {
         Job::Lint { explain } | Job::Check { explain, .. } | Job::Refute { explain } => *explain,
-        Job::Score { .. } | Job::Cnf => false,
+        Job::Score { .. }
+        | Job::Rank { .. }
+        | Job::Cnf
+        | Job::CnfBetter { .. }
+        | Job::RefuteBetter { .. } => false,
     }
 }

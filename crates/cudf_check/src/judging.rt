@@ -48,7 +48,11 @@ fn said_fail(reason: Unjudged) -> Result<Judgement, ReadError>
 }
 
 /// Judges a solution.
-fn judge(setting: Setting, problem: &Problem<'_>, bytes: &[u8]) -> Result<Judgement, ReadError>
+pub(crate) fn judge(
+    setting: Setting,
+    problem: &Problem<'_>,
+    bytes: &[u8],
+) -> Result<Judgement, ReadError>
     ensures judged { IfOk result (IsJudged setting.mode problem.now bytes.now) }
     ensures fault { IfErr result (IsFaultOf (solution_fault setting.mode problem.now.extra_names bytes.now)) }
 {

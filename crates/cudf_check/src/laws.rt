@@ -1,7 +1,7 @@
 //! What follows from the definitions alone.
 ghost use Rattle.cudf_check.specs.Promises.Laws.{AddsToInstances, AddsToFaults, AddsToProofs, AddsToReasons};
 ghost use Rattle.cudf_check.specs.RankReport.{EntrantsHaveOwnPlaces};
-ghost use Rattle.cudf_check.specs.Report.{IsToldPlainly};
+ghost use Rattle.cudf_check.specs.JobReport.{IsToldPlainly};
 
 pub use cudf_job::laws::ranking;
 

@@ -1,6 +1,7 @@
 //! Prints the lines of reports. All memory is taken before the first line is printed.
 mod aims;
 mod alone;
+mod better;
 mod detail;
 mod dimacs;
 mod explanation;
@@ -17,6 +18,7 @@ mod scribe;
 mod shown;
 
 pub(crate) use alone::print_faulty;
+pub(crate) use better::{print_best, print_better};
 pub(crate) use dimacs::print_cnf;
 pub(crate) use instance::package_at;
 pub(crate) use judged::print_solution;

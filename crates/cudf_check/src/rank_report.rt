@@ -2,20 +2,22 @@
 ghost use Rattle.std.specs.Prelude.{map, option_map};
 ghost use Rattle.cudf_problem.specs.declared.mode.Mode.{Mode};
 ghost use Rattle.cudf_problem.specs.Universe.{PlainProblem};
-ghost use Rattle.cudf_check.specs.RankReport.{rank_report, solutions_report, placed_faults, first_faulty_or};
+ghost use Rattle.cudf_check.specs.JobStyles.{named_style};
+ghost use Rattle.cudf_check.specs.Naming.{own_file};
+ghost use Rattle.cudf_check.specs.RankReport.{solutions_report, placed_faults, first_faulty_or};
+ghost use Rattle.cudf_check.specs.Report.{problem_report};
 ghost use Rattle.cudf_device.specs.Outcomes.{Report};
-ghost use Rattle.cudf_device.specs.Promises.Answering.{Answers};
 ghost use Rattle.cudf_device.specs.Promises.PaperInside.{Prints};
 ghost use Rattle.cudf_check.specs.Working.Judged.{IsUnranked};
 ghost use Rattle.cudf_device.specs.Readers.{names_in};
 
 use crate::judging::{Unranked, best_outcome, judge_each};
 use crate::lines::{print_faulty_solution, print_ranking};
-use crate::naming::{Given, name_at, own_file};
+use crate::naming::{Given, Others, name_at, own_file};
 use crate::readings::problem_in;
 use crate::report::print_unsound;
 use crate::setting::Setting;
-use cudf_device::{Outcome, Paper, ReportBuffer, RunError, Sink, Source};
+use cudf_device::{Outcome, Paper, Sink, Source};
 use cudf_document::{NameRoom, Problem, ReadError};
 use cudf_job::ranked as in_order;
 use cudf_referee::Aim;
@@ -41,29 +43,22 @@ fn print_unranked<S: Source, W: Sink>(
     }
 }
 
-/// What is ranked: the texts of the solutions, and the sources that gave them.
-#[derive(Clone, Copy)]
-pub(crate) struct Ranked<'t, 's, S> {
-    pub(crate) texts: &'t [Vec<u8>],
-    pub(crate) sources: &'s [S],
-}
-
 /// Ranks the solutions of a problem.
-#[tactic(auto, unfolding(crate::specs::RankReport::rank_report))]
-fn print_rank_report<S: Source, W: Sink>(
+pub(crate) fn print_rank_report<S: Source, W: Sink>(
     paper: &mut Paper<'_, W>,
     setting: Setting,
     aims: &[Aim],
     problem: Given<'_, '_>,
-    ranked: Ranked<'_, '_, S>,
+    solutions: Others<'_, S>,
 ) -> Result<Outcome, AllocError>
-    ensures { Prints W.state paper.old paper.new
-        (rank_report aims.now setting.mode (record { first = option_map (λ n. n.now) problem.entry.name; others = names_in S.state ranked.entry.sources.now }) problem.entry.bytes.now (map (λ b. b.items) ranked.entry.texts.now)) result }
+    ensures { let names = names_in S.state solutions.entry.sources.now in
+        Prints W.state paper.old paper.new (problem_report (named_style (own_file (option_map (λ n. n.now) problem.entry.name))) setting.mode problem.entry.bytes.now
+        (λ p. solutions_report aims.now setting.mode names p (map (λ b. b.items) solutions.entry.texts.now))) result }
 {
     let mut room = Room::new(setting.alloc);
     let mut names = NameRoom::new(setting.alloc);
     match problem_in(setting, problem.bytes, &mut room, &mut names) {
-        Ok(problem) => print_judged(paper, setting, aims, &problem, ranked),
+        Ok(problem) => print_judged(paper, setting, aims, &problem, solutions),
         Err(error) => {
             let origin = own_file(problem.name);
             print_unsound(paper, setting, origin, problem.bytes, false, error)
@@ -77,12 +72,12 @@ fn print_judged<S: Source, W: Sink>(
     setting: Setting,
     aims: &[Aim],
     problem: &Problem<'_>,
-    ranked: Ranked<'_, '_, S>,
+    solutions: Others<'_, S>,
 ) -> Result<Outcome, AllocError>
     ensures { Prints W.state paper.old paper.new
-        (solutions_report aims.now setting.mode (names_in S.state ranked.entry.sources.now) problem.now (map (λ b. b.items) ranked.entry.texts.now)) result }
+        (solutions_report aims.now setting.mode (names_in S.state solutions.entry.sources.now) problem.now (map (λ b. b.items) solutions.entry.texts.now)) result }
 {
-    let Ranked { texts, sources } = ranked;
+    let Others { texts, sources } = solutions;
     match judge_each(setting, problem, texts) {
         Ok(entrants) => {
             let outcome = best_outcome(&entrants);
@@ -92,21 +87,4 @@ fn print_judged<S: Source, W: Sink>(
         }
         Err(unranked) => print_unranked(paper, sources, unranked),
     }
-}
-
-/// Answers with the ranking of a problem's solutions. All memory is taken before the first byte is written.
-pub(crate) fn answer_ranking<S: Source, W: Sink>(
-    setting: Setting,
-    aims: &[Aim],
-    problem: Given<'_, '_>,
-    ranked: Ranked<'_, '_, S>,
-    out: &mut W,
-) -> Result<Outcome, RunError>
-    ensures { Answers (W.state out.old) (W.state out.new)
-        (rank_report aims.now setting.mode (record { first = option_map (λ n. n.now) problem.entry.name; others = names_in S.state ranked.entry.sources.now }) problem.entry.bytes.now (map (λ b. b.items) ranked.entry.texts.now)) result }
-{
-    let mut waiting = ReportBuffer::new(setting.alloc)?;
-    let mut paper = Paper::new(out, &mut waiting);
-    let answer = print_rank_report(&mut paper, setting, aims, problem, ranked);
-    paper.finish(answer)
 }

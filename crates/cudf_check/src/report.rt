@@ -1,5 +1,5 @@
 //! Decides which report the inputs have.
-ghost use Rattle.std.specs.Prelude.{◌≡◌, ℕ, Bool, false, IfOk, List, [], None, Option, codes, option_map, unwrap_or, if◌then◌else◌};
+ghost use Rattle.std.specs.Prelude.{◌≡◌, ℕ, Bool, false, IfOk, List, None, Option, codes, map, option_map, if◌then◌else◌};
 ghost use Rattle.cudf_text.specs.Joined.{is_fail, problem_part, solution_part};
 ghost use Rattle.cudf_text.specs.declared.fault.Fault.{Fault};
 ghost use Rattle.cudf_problem.specs.declared.mode.Mode.{Mode};
@@ -8,21 +8,24 @@ ghost use Rattle.cudf_referee.specs.Proposals.{Proposal};
 ghost use Rattle.cudf_device.specs.declared.outcome.Outcome.TheVariants.{Fail, Yes};
 ghost use Rattle.cudf_check.specs.JobStyles.{detail_if, document_style, explains, inputs_style, pair_style, refutation_style};
 ghost use Rattle.cudf_check.specs.Naming.{one_file, own_file};
-ghost use Rattle.cudf_check.specs.Report.{alone, faulty_or, cnf_answer, problem_fault, problem_report, refute_answer, solution_fault, solution_report, pair_report, inputs_report, report};
+ghost use Rattle.cudf_check.specs.Report.{alone, faulty_or, cnf_answer, problem_fault, problem_report, refute_answer, solution_fault, solution_report, pair_report};
+ghost use Rattle.cudf_check.specs.JobReport.{inputs_report, report};
 ghost use Rattle.cudf_check.specs.Styles.{Style, of_problem, of_solution};
 ghost use Rattle.cudf_device.specs.Outcomes.{Report};
 ghost use Rattle.cudf_device.specs.Promises.Answering.{Answers};
 ghost use Rattle.cudf_device.specs.Promises.PaperInside.{Prints};
 ghost use Rattle.cudf_check.specs.Working.Found.{found_text};
-ghost use Rattle.cudf_check.specs.Working.Named.{given_names, origin_view, origins_view, style_for};
+ghost use Rattle.cudf_check.specs.Working.Named.{given_names, names_given, origin_view, origins_view, style_for};
 ghost use Rattle.cudf_check.specs.Working.Unjudged.{IsFaultOf, IsUnjudged};
 
+use crate::better_report::{Question, print_better_report};
 use crate::job::explains;
 use crate::lines::{print_cnf, print_faulty, print_proof, print_solution};
-use crate::naming::{Given, Origin, Origins, file_behind, own_file};
+use crate::naming::{Given, Origin, Origins, Others, file_behind, own_file};
+use crate::rank_report::print_rank_report;
 use crate::readings::{Unjudged, problem_in, proposed_in, sound_in};
 use crate::setting::Setting;
-use cudf_device::{Outcome, Paper, ReportBuffer, RunError, Sink};
+use cudf_device::{Outcome, Paper, ReportBuffer, RunError, Sink, Source};
 use cudf_document::{Detail, NameRoom, Problem, ReadError, detail, solution_of};
 use cudf_job::Job;
 use cudf_text::{Fault, Room, cut_joined};
@@ -56,7 +59,7 @@ fn told<'t>(
 }
 
 /// Prints which fault a document has that isn't judged.
-fn print_unread<W: Sink>(
+pub(crate) fn print_unread<W: Sink>(
     paper: &mut Paper<'_, W>,
     alloc: Global,
     document: Document<'_, '_>,
@@ -275,52 +278,52 @@ fn cut<'t>(input: Given<'t, 't>) -> Inputs<'t>
 }
 
 /// Prints the report of a job on its inputs.
-#[tactic(auto, unfolding(crate::specs::Report::report))]
-fn print_report<W: Sink>(
+#[tactic(auto, unfolding(crate::specs::JobReport::report))]
+fn print_report<S: Source, W: Sink>(
     paper: &mut Paper<'_, W>,
     setting: Setting,
     job: &Job,
     first: Given<'_, '_>,
-    second: Option<Given<'_, '_>>,
+    others: Others<'_, S>,
 ) -> Result<Outcome, AllocError>
     ensures { Prints W.state paper.old paper.new
-        (report job.now setting.mode (given_names first.entry second.entry) first.entry.bytes.now (option_map (λ g. g.bytes.now) second.entry)) result }
+        (report job.now setting.mode (names_given S.state first.entry others.entry.sources.now) first.entry.bytes.now (map (λ b. b.items) others.entry.texts.now)) result }
 {
     match job {
         Job::Lint { explain } => print_sound(paper, setting, first, *explain),
         Job::Check { .. } | Job::Score { .. } => {
-            print_pair(paper, setting, job, parted(first, second))
+            print_pair(paper, setting, job, parted(first, others.first()))
         }
+        Job::Rank { aims } => print_rank_report(paper, setting, aims, first, others),
         Job::Cnf => print_encoded(paper, setting, first.bytes),
+        Job::CnfBetter { aims } => {
+            let question = Question { aims, proof: None };
+            print_better_report(paper, setting, question, first.bytes, others.text(0))
+        }
         Job::Refute { explain } => {
-            print_refuted(paper, setting, first.bytes, proof_of(second), *explain)
+            print_refuted(paper, setting, first.bytes, others.text(0), *explain)
+        }
+        Job::RefuteBetter { aims } => {
+            let proof = Some(others.text(0));
+            let question = Question { aims, proof };
+            print_better_report(paper, setting, question, first.bytes, others.text(1))
         }
     }
 }
 
 /// Answers a job on its inputs. All memory is taken before the first byte is written.
-pub(crate) fn answer_job<W: Sink>(
+pub(crate) fn answer_job<S: Source, W: Sink>(
     setting: Setting,
     job: &Job,
     first: Given<'_, '_>,
-    second: Option<Given<'_, '_>>,
+    others: Others<'_, S>,
     out: &mut W,
 ) -> Result<Outcome, RunError>
     ensures { Answers (W.state out.old) (W.state out.new)
-        (report job.now setting.mode (given_names first.entry second.entry) first.entry.bytes.now (option_map (λ g. g.bytes.now) second.entry)) result }
+        (report job.now setting.mode (names_given S.state first.entry others.entry.sources.now) first.entry.bytes.now (map (λ b. b.items) others.entry.texts.now)) result }
 {
     let mut waiting = ReportBuffer::new(setting.alloc)?;
     let mut paper = Paper::new(out, &mut waiting);
-    let answer = print_report(&mut paper, setting, job, first, second);
+    let answer = print_report(&mut paper, setting, job, first, others);
     paper.finish(answer)
-}
-
-/// The bytes of a proof, which are none where there is no second input.
-fn proof_of<'t>(second: Option<Given<'t, '_>>) -> &'t [u8]
-    ensures { result.now ≡ unwrap_or (option_map (λ g. g.bytes.now) second.entry) [] }
-{
-    match second {
-        Some(proof) => proof.bytes,
-        None => &[],
-    }
 }

@@ -1,9 +1,10 @@
 -- Files in a row, and the words that name them.
-use Rattle.std.proofs.Common.{◌≡◌, ◌+◌, ◌<◌, ℕ, Bool, zero, suc, true, false, cond, List, [], ◌∷◌, ◌++◌, map, take, length, get_or, count_by, bytes_eq, nat_lt, codes, Option, Some, None, refl, sym, ap, ◌∙◌, subst, arith}
+use Rattle.std.proofs.Common.{◌≡◌, ◌+◌, ◌<◌, ℕ, Bool, zero, suc, true, false, cond, List, [], ◌∷◌, ◌++◌, map, take, length, get_or, count_by, bytes_eq, nat_lt, codes, Option, Some, None, is_some, refl, sym, ap, ◌∙◌, subst, arith}
 use Rattle.std.proofs.lemmas.List.{map-id}
 use Rattle.std.proofs.lemmas.Slice.Eq.{bytes_eq-Decides}
 use Rattle.std.specs.List.{fold, AllZip}
-use Rattle.cudf_command_line.specs.Command.{AreGivenBy, AreNamedBy, IsNamedBy, Refuses, are_standard_twice, files_alone, is_standard}
+use Rattle.std.specs.Option.{option_to_list}
+use Rattle.cudf_command_line.specs.Command.{AreNamedBy, IsNamedBy, Refuses, Words, are_standard_twice, files_alone, is_standard, other_words}
 use Rattle.cudf_command_line.specs.declared.command.FileName.{FileName}
 use Rattle.cudf_command_line.specs.declared.command.FileName.TheVariants.{Path, Standard}
 use Rattle.cudf_command_line.specs.declared.refusal.Refusal.TheVariants.{Twice}
@@ -26,6 +27,13 @@ pub next_taken : {A B : Type 0} (R : A → B → Type 0) (xs : List A) (i : ℕ)
 next_taken R xs i d ys y below m h =
     subst (λ zs. AllZip R zs (ys ++ y ∷ [])) (map-id (take (i + 1) xs))
     (taken_more (λ x. x) R xs i d ys y below (subst (λ zs. AllZip R zs ys) (sym (map-id (take i xs))) m) h)
+
+-- one more at the end
+pub one_more : {A B : Type 0} (R : A → B → Type 0) (xs : List A) (ys : List B) (x : A) (y : B) → AllZip R xs ys → R x y → AllZip R (xs ++ x ∷ []) (ys ++ y ∷ [])
+one_more R [] [] x y m h = (h, tt)
+one_more R [] (b ∷ ys) x y m h = absurd m
+one_more R (a ∷ xs) [] x y m h = absurd m
+one_more R (a ∷ xs) (b ∷ ys) x y m h = (m.0, one_more R xs ys x y m.1 h)
 
 -- ---- standard input
 
@@ -57,14 +65,17 @@ named_twice : (words : List (List ℕ)) (files : List FileName) → AreNamedBy w
     → nat_lt 1 (count_by (λ word. bytes_eq word (codes "-")) words) ≡ true
 named_twice words files m twice = ap (nat_lt 1) (sym (same_count 0 words files m)) ∙ twice
 
--- the words of the solutions, where there are any, are refused where two of the files are standard input
-pub given_twice : (problem : Option (List ℕ)) (solutions : Option (List (List ℕ))) (word : List ℕ) (file : FileName) (files : List FileName)
-    → problem ≡ Some word → IsNamedBy word file → AreGivenBy solutions files → nat_lt 1 (count_by is_standard (file ∷ files)) ≡ true
-    → Refuses (files_alone problem solutions) Twice
-given_twice problem solutions word file files problem_is named names twice =
-    subst (λ p. Refuses (files_alone p solutions) Twice) (sym problem_is) ((None, tt), (None, tt), (None, tt), refl, go solutions files names twice)
-  where
-    go : (solutions : Option (List (List ℕ))) (files : List FileName) → AreGivenBy solutions files → nat_lt 1 (count_by is_standard (file ∷ files)) ≡ true
-        → are_standard_twice (Some word) solutions ≡ true
-    go None files none twice = named_twice (word ∷ []) (file ∷ []) (named, tt) (subst (λ fs. nat_lt 1 (count_by is_standard (file ∷ fs)) ≡ true) none twice)
-    go (Some words) files names twice = named_twice (word ∷ words) (file ∷ files) (named, names) twice
+-- the words are refused where two of the files are standard input
+pub given_twice : (words : Words) (others : Option (List (List ℕ))) (better_than : Option (List ℕ)) (word : List ℕ) (file : FileName) (files : List FileName)
+    → words.problem ≡ Some word → IsNamedBy word file → AreNamedBy (other_words others better_than) files → nat_lt 1 (count_by is_standard (file ∷ files)) ≡ true
+    → Refuses (files_alone words others better_than) Twice
+given_twice words others better_than word file files problem_is named names twice = (
+  (None, tt),
+  (None, tt),
+  (None, tt),
+  refl,
+  refl,
+  ap is_some problem_is,
+  subst (λ problem. are_standard_twice (option_to_list problem ++ other_words others better_than) ≡ true) (sym problem_is)
+      (named_twice (word ∷ other_words others better_than) (file ∷ files) (named, names) twice),
+)

@@ -1,48 +1,29 @@
 -- What the words of a command are, by the rows that a parse has of it.
 use Rattle.std.proofs.Common.{◌≡◌, ◌∙◌, ℕ, List, Option, Some, None, Result, Ok, Err, MatchResult, ap, subst, inr, codes, option_map, unwrap_or, false}
 use Rattle.clap.specs.declared.parser.matches.Found.{Found}
-use Rattle.clap.specs.Matches.{first_value, matched_of, raw_values}
-use Rattle.clap.specs.Words.{Row, rows_of, first_of, all_of}
+use Rattle.clap.specs.Words.{Row, rows_of}
 use Rattle.clap.proofs.WalkLemmas.{first_value-rows, raw_values-rows}
 use Rattle.cudf_command_line.specs.declared.command.Order.{Order}
 use Rattle.cudf_command_line.specs.declared.refusal.Refusal.{Refusal}
-use Rattle.cudf_command_line.specs.Command.{Words, words_of, words_in, Asks, AsksOf, IsAskedBy, IsRefusedBy, arguments, has_list_apart}
-
-abbrev all_words : (problem : Option (List ℕ)) (solution solutions proof : Option (List (List ℕ))) (after limit criteria strict explain filename : Option (List ℕ)) → Words
-all_words problem solution solutions proof after limit criteria strict explain filename = record {
-  problem = problem;
-  solution = solution;
-  solutions = solutions;
-  proof = proof;
-  after = after;
-  limit = limit;
-  criteria = criteria;
-  strict = strict;
-  explain = explain;
-  filename = filename;
-}
+use Rattle.cudf_command_line.specs.Command.{words_of, words_in, Asks, AsksOf, IsAskedBy, IsRefusedBy, arguments, has_list_apart}
 
 words-rows : (found : Found) → words_of found ≡ words_in (rows_of found)
 words-rows found =
-    let old = λ (id : List ℕ). first_value found id in
-    let new = λ (id : List ℕ). first_of id (rows_of found) in
-    let same = first_value-rows found in
-    let each = raw_values-rows found in
-    let before : Option (List (List ℕ)) = option_map raw_values (matched_of found (codes "solution")) in
-    let one : Option (List (List ℕ)) = all_of (codes "solution") (rows_of found) in
-    let several : Option (List (List ℕ)) = all_of (codes "solutions") (rows_of found) in
-    let proof_before : Option (List (List ℕ)) = option_map raw_values (matched_of found (codes "proof")) in
-    let proof : Option (List (List ℕ)) = all_of (codes "proof") (rows_of found) in
-    ap (λ (ws : Option (List (List ℕ))). all_words (old (codes "problem")) before ws proof_before (old (codes "after")) (old (codes "limit")) (old (codes "criteria")) (old (codes "strict")) (old (codes "explain")) (old (codes "with-filename"))) (each (codes "solutions"))
-    ∙ (ap (λ (w : Option (List ℕ)). all_words w before several proof_before (old (codes "after")) (old (codes "limit")) (old (codes "criteria")) (old (codes "strict")) (old (codes "explain")) (old (codes "with-filename"))) (same (codes "problem"))
-    ∙ (ap (λ (ws : Option (List (List ℕ))). all_words (new (codes "problem")) ws several proof_before (old (codes "after")) (old (codes "limit")) (old (codes "criteria")) (old (codes "strict")) (old (codes "explain")) (old (codes "with-filename"))) (each (codes "solution"))
-    ∙ (ap (λ (ws : Option (List (List ℕ))). all_words (new (codes "problem")) one several ws (old (codes "after")) (old (codes "limit")) (old (codes "criteria")) (old (codes "strict")) (old (codes "explain")) (old (codes "with-filename"))) (each (codes "proof"))
-    ∙ (ap (λ (w : Option (List ℕ)). all_words (new (codes "problem")) one several proof w (old (codes "limit")) (old (codes "criteria")) (old (codes "strict")) (old (codes "explain")) (old (codes "with-filename"))) (same (codes "after"))
-    ∙ (ap (λ (w : Option (List ℕ)). all_words (new (codes "problem")) one several proof (new (codes "after")) w (old (codes "criteria")) (old (codes "strict")) (old (codes "explain")) (old (codes "with-filename"))) (same (codes "limit"))
-    ∙ (ap (λ (w : Option (List ℕ)). all_words (new (codes "problem")) one several proof (new (codes "after")) (new (codes "limit")) w (old (codes "strict")) (old (codes "explain")) (old (codes "with-filename"))) (same (codes "criteria"))
-    ∙ (ap (λ (w : Option (List ℕ)). all_words (new (codes "problem")) one several proof (new (codes "after")) (new (codes "limit")) (new (codes "criteria")) w (old (codes "explain")) (old (codes "with-filename"))) (same (codes "strict"))
-    ∙ (ap (λ (w : Option (List ℕ)). all_words (new (codes "problem")) one several proof (new (codes "after")) (new (codes "limit")) (new (codes "criteria")) (new (codes "strict")) w (old (codes "with-filename"))) (same (codes "explain"))
-    ∙ ap (λ (w : Option (List ℕ)). all_words (new (codes "problem")) one several proof (new (codes "after")) (new (codes "limit")) (new (codes "criteria")) (new (codes "strict")) (new (codes "explain")) w) (same (codes "with-filename"))))))))))
+    let first = first_value-rows found in
+    let all = raw_values-rows found in
+    λ k. record {
+      problem = first (codes "problem") k;
+      solution = all (codes "solution") k;
+      solutions = all (codes "solutions") k;
+      proof = all (codes "proof") k;
+      after = first (codes "after") k;
+      limit = first (codes "limit") k;
+      criteria = first (codes "criteria") k;
+      better_than = first (codes "better-than") k;
+      strict = first (codes "strict") k;
+      explain = first (codes "explain") k;
+      filename = first (codes "with-filename") k;
+    }
 
 -- what is asked of the entries is asked of the name and the rows
 pub asked : {B : Type 0} (f : B → List ℕ × List Row) (sub : Option B) (name : List ℕ) (found : Found) (result : Result Order Refusal)

@@ -1,7 +1,7 @@
 -- What the words of the command line ask for.
-use Rattle.std.specs.Prelude.{◌≡◌, ◌≢◌, ◌⊎◌, ◌&&◌, ◌||◌, if◌then◌else◌, nat_lt, bytes_eq, ℕ, Bool, true, false, List, [], ◌∷◌, count_by, codes, drop, Option, Some, None, is_some, option_map, unwrap_or, Result, Ok, Err, MatchResult}
+use Rattle.std.specs.Prelude.{◌≡◌, ◌≢◌, ◌⊎◌, ◌&&◌, ◌||◌, not, if◌then◌else◌, nat_lt, bytes_eq, ℕ, Bool, true, false, List, [], ◌∷◌, ◌++◌, count_by, codes, drop, Option, Some, None, is_some, option_map, unwrap_or, Result, Ok, Err, MatchResult}
 use Rattle.std.specs.List.{AllZip}
-use Rattle.std.specs.Option.{option_map_or}
+use Rattle.std.specs.Option.{option_map_or, option_to_list}
 use Rattle.std.specs.Result.{IsErrAnd}
 use Rattle.clap.specs.Matches.{first_value, matched_of, raw_values}
 use Rattle.clap.specs.Words.{Row, all_of, first_of}
@@ -16,14 +16,13 @@ use Rattle.cudf_job.specs.KeyViews.{key_view}
 use Rattle.cudf_job.specs.declared.key.Key.{Key}
 use Rattle.cudf_problem.specs.declared.mode.Mode.{Mode}
 use Rattle.cudf_problem.specs.declared.mode.Mode.TheVariants.{Lenient, Strict}
-use Rattle.cudf_job.specs.declared.job.Job.TheVariants.{Lint, Check, Score, Cnf, Refute}
+use Rattle.cudf_job.specs.declared.job.Job.{Job}
+use Rattle.cudf_job.specs.declared.job.Job.TheVariants.{Lint, Check, Score, Rank, Cnf, CnfBetter, Refute, RefuteBetter}
 use Rattle.cudf_command_line.specs.declared.command.FileName.{FileName}
 use Rattle.cudf_command_line.specs.declared.command.FileName.TheVariants.{Path, Standard}
 use Rattle.cudf_command_line.specs.declared.command.Order.{Order}
 use Rattle.cudf_command_line.specs.declared.refusal.Refusal.{Refusal}
-use Rattle.cudf_command_line.specs.declared.refusal.Refusal.TheVariants.{Missing, Twice, NoKey, NoNumber, NoList, Apart, Memory}
-use Rattle.cudf_command_line.specs.declared.command.Work.{Work}
-use Rattle.cudf_command_line.specs.declared.command.Work.TheVariants.{Run, Rank}
+use Rattle.cudf_command_line.specs.declared.refusal.Refusal.TheVariants.{Missing, Twice, NoKey, NoNumber, NoList, Apart, Unpaired, Explained, Memory}
 
 -- ---- files
 
@@ -41,11 +40,6 @@ IsGivenBy (Some word) file = IsNamedBy word file
 abbrev pub AreNamedBy : List (List ℕ) → List FileName → Type 0
 AreNamedBy words files = AllZip IsNamedBy words files
 
--- each word names the file at its place; without words there are no files
-abbrev pub AreGivenBy : Option (List (List ℕ)) → List FileName → Type 0
-AreGivenBy None files = files ≡ []
-AreGivenBy (Some words) files = AreNamedBy words files
-
 -- the file is standard input
 abbrev pub is_standard : FileName → Bool
 is_standard (Path path) = false
@@ -58,11 +52,11 @@ file_label Standard = codes "(standard input)"
 
 -- one of the files is standard input
 abbrev pub takes_standard : Order → Bool
-takes_standard order = is_standard order.problem || nat_lt 0 (count_by is_standard order.solutions.items)
+takes_standard order = is_standard order.problem || nat_lt 0 (count_by is_standard order.others.items)
 
 -- two of the files or more are standard input
 abbrev pub takes_standard_twice : Order → Bool
-takes_standard_twice order = nat_lt 1 (count_by is_standard (order.problem ∷ order.solutions.items))
+takes_standard_twice order = nat_lt 1 (count_by is_standard (order.problem ∷ order.others.items))
 
 -- ---- pages
 
@@ -117,6 +111,22 @@ RefusesList given refusal = ⊥
 abbrev pub HasList : Option (List ℕ) → Type 0
 HasList given = (aims : Option (List Aim)) × IsList given aims
 
+-- a list, and the file of the answer that is to be bettered by it, are both there, or neither is
+abbrev pub is_paired : Option (List ℕ) → Option (List ℕ) → Bool
+is_paired None None = true
+is_paired (Some list) (Some file) = true
+is_paired list file = false
+
+-- these are so, and the list has these aims
+pub record IsPair (list file : Option (List ℕ)) (aims : Option (List Aim)) : Type 0 where
+  pub aims_are : IsList list aims
+  pub together : is_paired list file ≡ true
+
+-- the list can't be had, or one of both is there alone
+abbrev pub RefusesPair : Option (List ℕ) → Option (List ℕ) → Refusal → Type 0
+RefusesPair list file Unpaired = HasList list × (is_paired list file ≡ false)
+RefusesPair list file refusal = RefusesList list refusal
+
 -- `--criteria` is one of the arguments, without its list; after `--` all words are files
 abbrev pub has_list_apart : List (List ℕ) → Bool
 has_list_apart [] = false
@@ -125,7 +135,7 @@ has_list_apart (word ∷ words) = if bytes_eq word (codes "--") then false else 
 -- the arguments are of a command that takes a list
 abbrev pub takes_list : List (List ℕ) → Bool
 takes_list [] = false
-takes_list (word ∷ words) = bytes_eq word (codes "score") || bytes_eq word (codes "rank")
+takes_list (word ∷ words) = bytes_eq word (codes "score") || bytes_eq word (codes "rank") || bytes_eq word (codes "cnf") || bytes_eq word (codes "refute")
 
 -- of such a command, the list is separate
 abbrev pub takes_list_apart : List (List ℕ) → Bool
@@ -157,6 +167,7 @@ pub record Words : Type 0 where
   pub after : Option (List ℕ)
   pub limit : Option (List ℕ)
   pub criteria : Option (List ℕ)
+  pub better_than : Option (List ℕ)
   pub strict : Option (List ℕ)
   pub explain : Option (List ℕ)
   pub filename : Option (List ℕ)
@@ -170,131 +181,152 @@ words_of found = record {
   after = first_value found (codes "after");
   limit = first_value found (codes "limit");
   criteria = first_value found (codes "criteria");
+  better_than = first_value found (codes "better-than");
   strict = first_value found (codes "strict");
   explain = first_value found (codes "explain");
   filename = first_value found (codes "with-filename");
 }
 
--- what a command takes of its words: its options, its files, and whether all that it needs is there
+-- what a command takes of its words: its options, its files, of which that of `--better-than` comes last, whether the options go together,
+-- and whether all that it needs is there
 pub record Taken : Type 0 where
   pub after : Option (List ℕ)
   pub limit : Option (List ℕ)
   pub criteria : Option (List ℕ)
+  pub better_than : Option (List ℕ)
+  pub strict : Option (List ℕ)
   pub explain : Option (List ℕ)
   pub filename : Option (List ℕ)
   pub problem : Option (List ℕ)
-  pub solutions : Option (List (List ℕ))
+  pub others : Option (List (List ℕ))
+  pub is_paired : Bool
+  pub may_explain : Bool
   pub is_whole : Bool
 
--- the files alone
-abbrev pub files_alone : Option (List ℕ) → Option (List (List ℕ)) → Taken
-files_alone problem solutions = record { after = None; limit = None; criteria = None; explain = None; filename = None; problem = problem; solutions = solutions; is_whole = is_some problem }
+-- what each command has, and these files beside the problem's
+abbrev pub files_alone : Words → Option (List (List ℕ)) → Option (List ℕ) → Taken
+files_alone words others better_than = record {
+  after = None;
+  limit = None;
+  criteria = None;
+  better_than = better_than;
+  strict = words.strict;
+  explain = None;
+  filename = words.filename;
+  problem = words.problem;
+  others = others;
+  is_paired = true;
+  may_explain = true;
+  is_whole = is_some words.problem;
+}
 
 abbrev pub lint_words : Words → Taken
-lint_words words = record (files_alone words.problem None) { explain = words.explain; filename = words.filename }
+lint_words words = record (files_alone words None None) { explain = words.explain }
 
 abbrev pub check_words : Words → Taken
-check_words words = record (files_alone words.problem words.solution) { after = words.after; limit = words.limit; explain = words.explain; filename = words.filename }
+check_words words = record (files_alone words words.solution None) { after = words.after; limit = words.limit; explain = words.explain }
 
 abbrev pub score_words : Words → Taken
-score_words words = record (files_alone words.problem words.solution) { criteria = words.criteria; filename = words.filename }
+score_words words = record (files_alone words words.solution None) { criteria = words.criteria }
 
 abbrev pub rank_words : Words → Taken
-rank_words words = record (files_alone words.problem words.solutions) {
+rank_words words = record (files_alone words words.solutions None) {
   criteria = words.criteria;
-  filename = words.filename;
   is_whole = is_some words.criteria && (is_some words.solutions && is_some words.problem);
 }
 
 abbrev pub cnf_words : Words → Taken
-cnf_words words = files_alone words.problem None
+cnf_words words = record (files_alone words None words.better_than) {
+  criteria = words.criteria;
+  is_paired = is_paired words.criteria words.better_than;
+}
 
 abbrev pub refute_words : Words → Taken
-refute_words words = record (files_alone words.problem words.proof) {
+refute_words words = record (files_alone words words.proof words.better_than) {
+  criteria = words.criteria;
   explain = words.explain;
+  is_paired = is_paired words.criteria words.better_than;
+  may_explain = not (is_some words.better_than && is_given words.explain);
   is_whole = is_some words.proof && is_some words.problem;
 }
 
 -- ---- what is refused
 
--- the words of the files, the problem's first
-abbrev pub file_words : Option (List ℕ) → Option (List (List ℕ)) → List (List ℕ)
-file_words None solutions = unwrap_or solutions []
-file_words (Some problem) solutions = problem ∷ unwrap_or solutions []
+-- the words of the files behind the problem's
+abbrev pub other_words : Option (List (List ℕ)) → Option (List ℕ) → List (List ℕ)
+other_words others better_than = unwrap_or others [] ++ option_to_list better_than
 
 -- `-` is two of the files or more
-abbrev pub are_standard_twice : Option (List ℕ) → Option (List (List ℕ)) → Bool
-are_standard_twice problem solutions = nat_lt 1 (count_by (λ word. bytes_eq word (codes "-")) (file_words problem solutions))
+abbrev pub are_standard_twice : List (List ℕ) → Bool
+are_standard_twice words = nat_lt 1 (count_by (λ word. bytes_eq word (codes "-")) words)
 
--- What is judged of the words of a command, in this order: the key, the limit, the list, whether all is there, and `-`. The first that is
--- wrong is reported. Memory can run out where a list or the names of files are kept.
+-- What is judged of the words of a command, in this order: the key, the limit, the list, whether it goes with `--better-than`, whether
+-- `--explain` does, whether all is there, and `-`. The first that is wrong is reported. Memory can run out where a list or the names of
+-- files are kept.
 abbrev pub Refuses : Taken → Refusal → Type 0
 Refuses taken (NoKey word) = RefusesKey taken.after (NoKey word)
 Refuses taken (NoNumber word) = HasAfter taken.after × RefusesLimit taken.limit (NoNumber word)
 Refuses taken (NoList word) = HasAfter taken.after × HasLimit taken.limit × RefusesList taken.criteria (NoList word)
-Refuses taken Missing = HasAfter taken.after × HasLimit taken.limit × HasList taken.criteria × (taken.is_whole ≡ false)
-Refuses taken Twice = HasAfter taken.after × HasLimit taken.limit × HasList taken.criteria × (taken.is_whole ≡ true) × (are_standard_twice taken.problem taken.solutions ≡ true)
+Refuses taken Unpaired = HasAfter taken.after × HasLimit taken.limit × HasList taken.criteria × (taken.is_paired ≡ false)
+Refuses taken Explained = HasAfter taken.after × HasLimit taken.limit × HasList taken.criteria × (taken.is_paired ≡ true) × (taken.may_explain ≡ false)
+Refuses taken Missing =
+    HasAfter taken.after × HasLimit taken.limit × HasList taken.criteria × (taken.is_paired ≡ true) × (taken.may_explain ≡ true) × (taken.is_whole ≡ false)
+Refuses taken Twice =
+    HasAfter taken.after × HasLimit taken.limit × HasList taken.criteria × (taken.is_paired ≡ true) × (taken.may_explain ≡ true) × (taken.is_whole ≡ true)
+    × (are_standard_twice (option_to_list taken.problem ++ other_words taken.others taken.better_than) ≡ true)
 Refuses taken Apart = ⊥
-Refuses taken Memory = is_some taken.criteria || is_some taken.solutions ≡ true
+Refuses taken Memory = is_some taken.criteria || (is_some taken.others || is_some taken.better_than) ≡ true
 
 -- ---- what is asked for
 
--- some work in a mode, with the files that these words name, and whether lines name them
-pub record IsOrder (work : Work) (mode : Mode) (names_files : Bool) (problem : Option (List ℕ)) (solutions : Option (List (List ℕ))) (order : Order) : Type 0 where
-  pub work_is : order.work ≡ work
-  pub mode_is : order.mode ≡ mode
-  pub names_files_is : order.names_files ≡ names_files
-  pub problem_is : IsGivenBy problem order.problem
-  pub solutions_are : AreGivenBy solutions order.solutions.items
-  pub standard_once : takes_standard_twice order ≡ false
+-- the job of each command, by the words that it takes
+abbrev pub Lints : Taken → Job → Type 0
+Lints taken job = job ≡ Lint (is_given taken.explain)
 
--- the work of each command, by the words that it takes
-abbrev pub Lints : Taken → Work → Type 0
-Lints taken work = work ≡ Run (Lint (is_given taken.explain))
+abbrev pub Checks : Taken → Job → Type 0
+Checks taken (Check key number explain) = IsAfter taken.after key × IsLimit taken.limit number × (explain ≡ is_given taken.explain)
+Checks taken job = ⊥
 
-abbrev pub Checks : Taken → Work → Type 0
-Checks taken (Run (Lint explain)) = ⊥
-Checks taken (Run (Check key number explain)) = IsAfter taken.after key × IsLimit taken.limit number × (explain ≡ is_given taken.explain)
-Checks taken (Run (Score aims)) = ⊥
-Checks taken (Run Cnf) = ⊥
-Checks taken (Run (Refute explain)) = ⊥
-Checks taken (Rank aims) = ⊥
+abbrev pub Scores : Taken → Job → Type 0
+Scores taken (Score aims) = IsList taken.criteria (option_map (λ v. v.items) aims)
+Scores taken job = ⊥
 
-abbrev pub Scores : Taken → Work → Type 0
-Scores taken (Run (Lint explain)) = ⊥
-Scores taken (Run (Check key number explain)) = ⊥
-Scores taken (Run (Score aims)) = IsList taken.criteria (option_map (λ v. v.items) aims)
-Scores taken (Run Cnf) = ⊥
-Scores taken (Run (Refute explain)) = ⊥
-Scores taken (Rank aims) = ⊥
-
-abbrev pub Ranks : Taken → Work → Type 0
-Ranks taken (Run job) = ⊥
+abbrev pub Ranks : Taken → Job → Type 0
 Ranks taken (Rank aims) = IsList taken.criteria (Some aims.items)
+Ranks taken job = ⊥
 
-abbrev pub PrintsCnf : Taken → Work → Type 0
-PrintsCnf taken work = work ≡ Run Cnf
+-- a list goes with the answer that is to be bettered by it
+abbrev pub PrintsCnf : Taken → Job → Type 0
+PrintsCnf taken Cnf = IsPair taken.criteria taken.better_than None
+PrintsCnf taken (CnfBetter aims) = IsPair taken.criteria taken.better_than (Some aims.items)
+PrintsCnf taken job = ⊥
 
-abbrev pub ChecksProof : Taken → Work → Type 0
-ChecksProof taken work = work ≡ Run (Refute (is_given taken.explain))
+abbrev pub ChecksProof : Taken → Job → Type 0
+ChecksProof taken (Refute explain) = IsPair taken.criteria taken.better_than None × (explain ≡ is_given taken.explain)
+ChecksProof taken (RefuteBetter aims) = IsPair taken.criteria taken.better_than (Some aims.items) × (is_given taken.explain ≡ false)
+ChecksProof taken job = ⊥
 
 -- the order does this, in a mode and with the files that the words name
-pub record IsOrderOf (Does : Taken → Work → Type 0) (mode : Mode) (taken : Taken) (order : Order) : Type 0 where
-  pub does : Does taken order.work
-  pub files_are : IsOrder order.work mode (is_given taken.filename) taken.problem taken.solutions order
+pub record IsOrderOf (Does : Taken → Job → Type 0) (taken : Taken) (order : Order) : Type 0 where
+  pub does : Does taken order.job
+  pub mode_is : order.mode ≡ mode_of taken.strict
+  pub names_files_is : order.names_files ≡ is_given taken.filename
+  pub problem_is : IsGivenBy taken.problem order.problem
+  pub others_are : AreNamedBy (other_words taken.others taken.better_than) order.others.items
+  pub standard_once : takes_standard_twice order ≡ false
 
 -- what a command that does this answers, of the words that it takes
-abbrev pub AnswersBy : (Taken → Work → Type 0) → Mode → Taken → Result Order Refusal → Type 0
-AnswersBy Does mode taken result = MatchResult result (IsOrderOf Does mode taken) (Refuses taken)
+abbrev pub AnswersBy : (Taken → Job → Type 0) → Taken → Result Order Refusal → Type 0
+AnswersBy Does taken result = MatchResult result (IsOrderOf Does taken) (Refuses taken)
 
 -- what the words of the command of this name ask for
 pub record Asks (name : List ℕ) (words : Words) (result : Result Order Refusal) : Type 0 where
-  pub lint : name ≡ codes "lint" → AnswersBy Lints (mode_of words.strict) (lint_words words) result
-  pub check : name ≡ codes "check" → AnswersBy Checks (mode_of words.strict) (check_words words) result
-  pub score : name ≡ codes "score" → AnswersBy Scores (mode_of words.strict) (score_words words) result
-  pub rank : name ≡ codes "rank" → AnswersBy Ranks (mode_of words.strict) (rank_words words) result
-  pub cnf : name ≡ codes "cnf" → AnswersBy PrintsCnf (mode_of words.strict) (cnf_words words) result
-  pub refute : name ≡ codes "refute" → AnswersBy ChecksProof (mode_of words.strict) (refute_words words) result
+  pub lint : name ≡ codes "lint" → AnswersBy Lints (lint_words words) result
+  pub check : name ≡ codes "check" → AnswersBy Checks (check_words words) result
+  pub score : name ≡ codes "score" → AnswersBy Scores (score_words words) result
+  pub rank : name ≡ codes "rank" → AnswersBy Ranks (rank_words words) result
+  pub cnf : name ≡ codes "cnf" → AnswersBy PrintsCnf (cnf_words words) result
+  pub refute : name ≡ codes "refute" → AnswersBy ChecksProof (refute_words words) result
 
 -- the same words, in the rows that a parse has of a command
 abbrev pub words_in : List Row → Words
@@ -306,6 +338,7 @@ words_in rows = record {
   after = first_of (codes "after") rows;
   limit = first_of (codes "limit") rows;
   criteria = first_of (codes "criteria") rows;
+  better_than = first_of (codes "better-than") rows;
   strict = first_of (codes "strict") rows;
   explain = first_of (codes "explain") rows;
   filename = first_of (codes "with-filename") rows;

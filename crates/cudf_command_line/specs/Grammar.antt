@@ -35,6 +35,10 @@ after_option = record (new_rule (codes "after")) { long = Some (codes "after"); 
 abbrev pub limit_option : Rule
 limit_option = record (new_rule (codes "limit")) { long = Some (codes "limit"); value_names = 1 }
 
+-- `--better-than S`
+abbrev pub better_option : Rule
+better_option = record (new_rule (codes "better-than")) { long = Some (codes "better-than"); value_names = 1 }
+
 -- `--criteria=LIST`
 abbrev pub criteria_option : Rule
 criteria_option = record (new_rule (codes "criteria")) { long = Some (codes "criteria"); value_names = 1 }
@@ -70,10 +74,11 @@ abbrev pub rank_grammar : App
 rank_grammar = with_rule (with_rule (with_rule (with_rule (with_rule (new_app (codes "rank")) problem_word) solutions_word) needed_criteria) strict_flag) filename_flag
 
 abbrev pub cnf_grammar : App
-cnf_grammar = with_rule (with_rule (new_app (codes "cnf")) problem_word) strict_flag
+cnf_grammar = with_rule (with_rule (with_rule (with_rule (new_app (codes "cnf")) problem_word) better_option) criteria_option) strict_flag
 
 abbrev pub refute_grammar : App
-refute_grammar = with_rule (with_rule (with_rule (with_rule (new_app (codes "refute")) problem_word) proof_word) strict_flag) explain_flag
+refute_grammar =
+    with_rule (with_rule (with_rule (with_rule (with_rule (with_rule (new_app (codes "refute")) problem_word) proof_word) better_option) criteria_option) strict_flag) explain_flag
 
 -- the program has a version, and one of its commands has to be named
 abbrev pub plain_grammar : App

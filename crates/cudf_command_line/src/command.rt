@@ -1,14 +1,13 @@
 //! What the words of the command line ask for.
-ghost use Rattle.std.specs.Prelude.{◌≡◌, IfOk, MatchResult, drop, is_some, map, option_map, string_bytes, true, false};
+ghost use Rattle.std.specs.Prelude.{◌≡◌, ◌||◌, [], IfOk, MatchResult, drop, is_some, map, option_map, string_bytes, true, false, unwrap_or};
 ghost use Rattle.clap.specs.Matches.{found_of};
 ghost use Rattle.clap.specs.Words.{subcommand_rows_of};
-ghost use Rattle.cudf_command_line.specs.Command.{IsNamedBy, AreNamedBy, AreGivenBy, IsAfter, IsLimit, IsList, words_of, lint_words, check_words, score_words, rank_words, cnf_words, refute_words, AnswersBy, Lints, Checks, Scores, Ranks, PrintsCnf, ChecksProof, RefusesKey, RefusesLimit, RefusesList, Asks, IsAskedBy, IsRefusedBy, has_list_apart, is_given, mode_of, takes_list, takes_list_apart, takes_standard_twice};
-ghost use Rattle.cudf_command_line.specs.declared.refusal.Refusal.TheVariants.{Memory};
+ghost use Rattle.cudf_command_line.specs.Command.{IsNamedBy, AreNamedBy, IsAfter, IsLimit, IsList, IsPair, other_words, words_of, lint_words, check_words, score_words, rank_words, cnf_words, refute_words, AnswersBy, Lints, Checks, Scores, Ranks, PrintsCnf, ChecksProof, RefusesKey, RefusesLimit, RefusesList, RefusesPair, Asks, IsAskedBy, IsRefusedBy, has_list_apart, is_given, mode_of, takes_list, takes_list_apart, takes_standard_twice};
 ghost use Rattle.cudf_command_line.specs.Orders.{IsAskedFor, IsUnasked};
 
 use crate::grammar::{
-    AFTER, CHECK, CNF, CRITERIA, EXPLAIN, LIMIT, LINT, PROBLEM, PROOF, RANK, REFUTE, SCORE,
-    SOLUTION, SOLUTIONS, STRICT, WITH_FILENAME, program,
+    AFTER, BETTER_THAN, CHECK, CNF, CRITERIA, EXPLAIN, LIMIT, LINT, PROBLEM, PROOF, RANK, REFUTE,
+    SCORE, SOLUTION, SOLUTIONS, STRICT, WITH_FILENAME, program,
 };
 use crate::refusal::Refusal;
 use crate::shown::Shown;
@@ -73,24 +72,15 @@ impl fmt::Display for FileName<'_> {
 #[derive(Drop)]
 pub struct Order<'w> {
     /// What to do with the files.
-    pub work: Work,
+    pub job: Job,
     /// How strictly to read the files.
     pub mode: Mode,
     /// Whether lines of the report name the files.
     pub names_files: bool,
     /// The file of the problem, or of the problem and the solution after it.
     pub problem: FileName<'w>,
-    /// The files of the solutions, where they have some of their own: one of a run at most.
-    pub solutions: Vec<FileName<'w>>,
-}
-
-/// What to do with the files.
-#[derive(Drop)]
-pub enum Work {
-    /// One run.
-    Run(Job),
-    /// A ranking of the solutions by these aims.
-    Rank(Vec<Aim>),
+    /// The files that are read after it, in this order: a proof, and then solutions.
+    pub others: Vec<FileName<'w>>,
 }
 
 /// The run that the words ask for. The first word is the program's name.
@@ -150,7 +140,10 @@ fn takes_list(arguments: &[String]) -> bool
     ensures { result ≡ takes_list (map (λ word. string_bytes word) arguments.now) }
 {
     match arguments.first() {
-        Some(word) => word.as_str() == SCORE || word.as_str() == RANK,
+        Some(word) => {
+            let word = word.as_str();
+            word == SCORE || word == RANK || word == CNF || word == REFUTE
+        }
         None => false,
     }
 }
@@ -186,101 +179,66 @@ fn order_of<'w>(alloc: Global, name: &str, found: &ArgMatches<'w>) -> Result<Ord
 }
 
 fn lint_order<'w>(alloc: Global, found: &ArgMatches<'w>) -> Result<Order<'w>, Refusal<'w>>
-    ensures { AnswersBy Lints (mode_of (words_of (found_of found.now)).strict) (lint_words (words_of (found_of found.now))) result }
+    ensures { AnswersBy Lints (lint_words (words_of (found_of found.now))) result }
 {
     let explain = is_given(found.get_str(EXPLAIN));
-    let work = Work::Run(Job::Lint { explain });
-    let mode = mode(found.get_str(STRICT));
-    let names_files = is_given(found.get_str(WITH_FILENAME));
-    Order::new(alloc, work, mode, names_files, found.get_str(PROBLEM), None)
+    Order::new(alloc, Job::Lint { explain }, found, None, None)
 }
 
 fn check_order<'w>(alloc: Global, found: &ArgMatches<'w>) -> Result<Order<'w>, Refusal<'w>>
-    ensures { AnswersBy Checks (mode_of (words_of (found_of found.now)).strict) (check_words (words_of (found_of found.now))) result }
+    ensures { AnswersBy Checks (check_words (words_of (found_of found.now))) result }
 {
-    let after = read_after(found.get_str(AFTER))?;
-    let limit = read_limit(found.get_str(LIMIT))?;
-    let explain = is_given(found.get_str(EXPLAIN));
-    let work = Work::Run(Job::Check {
-        after,
-        limit,
-        explain,
-    });
-    let mode = mode(found.get_str(STRICT));
-    let names_files = is_given(found.get_str(WITH_FILENAME));
-    Order::new(
-        alloc,
-        work,
-        mode,
-        names_files,
-        found.get_str(PROBLEM),
-        found.get_strs(SOLUTION),
-    )
+    let job = Job::Check {
+        after: read_after(found.get_str(AFTER))?,
+        limit: read_limit(found.get_str(LIMIT))?,
+        explain: is_given(found.get_str(EXPLAIN)),
+    };
+    Order::new(alloc, job, found, found.get_strs(SOLUTION), None)
 }
 
 fn score_order<'w>(alloc: Global, found: &ArgMatches<'w>) -> Result<Order<'w>, Refusal<'w>>
-    ensures { AnswersBy Scores (mode_of (words_of (found_of found.now)).strict) (score_words (words_of (found_of found.now))) result }
+    ensures { AnswersBy Scores (score_words (words_of (found_of found.now))) result }
 {
     let aims = read_list(alloc, found.get_str(CRITERIA))?;
-    let work = Work::Run(Job::Score { aims });
-    let mode = mode(found.get_str(STRICT));
-    let names_files = is_given(found.get_str(WITH_FILENAME));
-    Order::new(
-        alloc,
-        work,
-        mode,
-        names_files,
-        found.get_str(PROBLEM),
-        found.get_strs(SOLUTION),
-    )
+    let job = Job::Score { aims };
+    Order::new(alloc, job, found, found.get_strs(SOLUTION), None)
 }
 
 fn rank_order<'w>(alloc: Global, found: &ArgMatches<'w>) -> Result<Order<'w>, Refusal<'w>>
-    ensures { AnswersBy Ranks (mode_of (words_of (found_of found.now)).strict) (rank_words (words_of (found_of found.now))) result }
+    ensures { AnswersBy Ranks (rank_words (words_of (found_of found.now))) result }
 {
     let aims = read_list(alloc, found.get_str(CRITERIA))?.ok_or(Refusal::Missing)?;
     let solutions = found.get_strs(SOLUTIONS).ok_or(Refusal::Missing)?;
-    let mode = mode(found.get_str(STRICT));
-    let names_files = is_given(found.get_str(WITH_FILENAME));
-    Order::new(
-        alloc,
-        Work::Rank(aims),
-        mode,
-        names_files,
-        found.get_str(PROBLEM),
-        Some(solutions),
-    )
+    let job = Job::Rank { aims };
+    Order::new(alloc, job, found, Some(solutions), None)
 }
 
 fn cnf_order<'w>(alloc: Global, found: &ArgMatches<'w>) -> Result<Order<'w>, Refusal<'w>>
-    ensures { AnswersBy PrintsCnf (mode_of (words_of (found_of found.now)).strict) (cnf_words (words_of (found_of found.now))) result }
+    ensures { AnswersBy PrintsCnf (cnf_words (words_of (found_of found.now))) result }
 {
-    let mode = mode(found.get_str(STRICT));
-    Order::new(
-        alloc,
-        Work::Run(Job::Cnf),
-        mode,
-        false,
-        found.get_str(PROBLEM),
-        None,
-    )
+    let better_than = found.get_str(BETTER_THAN);
+    let job = match read_pair(alloc, found.get_str(CRITERIA), better_than)? {
+        Some(aims) => Job::CnfBetter { aims },
+        None => Job::Cnf,
+    };
+    Order::new(alloc, job, found, None, better_than)
 }
 
 fn refute_order<'w>(alloc: Global, found: &ArgMatches<'w>) -> Result<Order<'w>, Refusal<'w>>
-    ensures { AnswersBy ChecksProof (mode_of (words_of (found_of found.now)).strict) (refute_words (words_of (found_of found.now))) result }
+    ensures { AnswersBy ChecksProof (refute_words (words_of (found_of found.now))) result }
 {
-    let proof = found.get_strs(PROOF).ok_or(Refusal::Missing)?;
+    let better_than = found.get_str(BETTER_THAN);
     let explain = is_given(found.get_str(EXPLAIN));
-    let work = Work::Run(Job::Refute { explain });
-    let mode = mode(found.get_str(STRICT));
-    Order::new(
-        alloc,
-        work,
-        mode,
-        false,
-        found.get_str(PROBLEM),
-        Some(proof),
-    )
+    let aims = read_pair(alloc, found.get_str(CRITERIA), better_than)?;
+    if explain && better_than.is_some() {
+        return Err(Refusal::Explained);
+    }
+    let job = match aims {
+        Some(aims) => Job::RefuteBetter { aims },
+        None => Job::Refute { explain },
+    };
+    let proof = found.get_strs(PROOF).ok_or(Refusal::Missing)?;
+    Order::new(alloc, job, found, Some(proof), better_than)
 }
 
 /// How strictly to read, by the value of `--strict`.
@@ -343,6 +301,24 @@ fn read_list<'w>(alloc: Global, word: Option<&'w str>) -> Result<Option<Vec<Aim>
     }
 }
 
+/// The aims of the word of `--criteria`, which goes with the word of `--better-than`.
+fn read_pair<'w>(
+    alloc: Global,
+    list: Option<&'w str>,
+    better_than: Option<&'w str>,
+) -> Result<Option<Vec<Aim>>, Refusal<'w>>
+    ensures { MatchResult result
+        (λ aims. IsPair (option_map (λ w. w.now) list.entry) (option_map (λ w. w.now) better_than.entry) (option_map (λ v. v.items) aims))
+        (RefusesPair (option_map (λ w. w.now) list.entry) (option_map (λ w. w.now) better_than.entry)) }
+{
+    let aims = read_list(alloc, list)?;
+    if list.is_some() == better_than.is_some() {
+        Ok(aims)
+    } else {
+        Err(Refusal::Unpaired)
+    }
+}
+
 impl From<AllocError> for Refusal<'_> {
     ghost use Rattle.std.specs.Prelude.{◌≡◌};
     ghost use Rattle.cudf_command_line.specs.declared.refusal.Refusal.TheVariants.{Memory};
@@ -355,28 +331,29 @@ impl From<AllocError> for Refusal<'_> {
 }
 
 impl<'w> Order<'w> {
-    ghost use Rattle.std.specs.Prelude.{◌≡◌, MatchResult, count_by, map, option_map};
-    ghost use Rattle.cudf_command_line.specs.Command.{is_standard, takes_standard, takes_standard_twice, files_alone, IsOrder, Refuses};
+    ghost use Rattle.std.specs.Prelude.{◌≡◌, count_by, map, option_map};
+    ghost use Rattle.clap.specs.Matches.{found_of};
+    ghost use Rattle.cudf_command_line.specs.Command.{is_standard, takes_standard, takes_standard_twice, files_alone, words_of, AnswersBy};
 
-    /// Some work in a mode, with the files that these words name. The first word has to be there, and `-` can stand for one file only.
+    /// The order for a job. Its files are the problem, which has to be there, these others, and the one that is to be bettered,
+    /// where there is one. `-` can stand for one of them only.
     fn new(
         alloc: Global,
-        work: Work,
-        mode: Mode,
-        names_files: bool,
-        problem: Option<&'w str>,
-        solutions: Option<&[&'w str]>,
+        job: Job,
+        found: &ArgMatches<'w>,
+        others: Option<&[&'w str]>,
+        better_than: Option<&'w str>,
     ) -> Result<Order<'w>, Refusal<'w>>
-        ensures { MatchResult result
-            (IsOrder work mode names_files (option_map (λ w. w.now) problem.entry) (option_map (λ ws. map (λ w. w.now) ws.now) solutions.entry))
-            (Refuses (files_alone (option_map (λ w. w.now) problem.entry) (option_map (λ ws. map (λ w. w.now) ws.now) solutions.entry))) }
+        ensures { AnswersBy (λ _ asked. asked ≡ job)
+            (files_alone (words_of (found_of found.now)) (option_map (λ ws. map (λ w. w.now) ws.now) others.entry) (option_map (λ w. w.now) better_than.entry)) result }
     {
+        let problem = found.get_str(PROBLEM).ok_or(Refusal::Missing)?;
         let order = Order {
-            work,
-            mode,
-            names_files,
-            problem: file_name(problem.ok_or(Refusal::Missing)?),
-            solutions: solution_files(alloc, solutions)?,
+            job,
+            mode: mode(found.get_str(STRICT)),
+            names_files: is_given(found.get_str(WITH_FILENAME)),
+            problem: file_name(problem),
+            others: other_files(alloc, others, better_than)?,
         };
         if order.takes_standard_twice() {
             Err(Refusal::Twice)
@@ -389,44 +366,53 @@ impl<'w> Order<'w> {
     pub fn takes_standard(&self) -> bool
         ensures { result ≡ takes_standard self.now }
     {
-        self.problem.is_standard() || self.standard_solutions() > 0
+        self.problem.is_standard() || self.standard_others() > 0
     }
 
     /// Whether two of the files are standard input.
     fn takes_standard_twice(&self) -> bool
         ensures { result ≡ takes_standard_twice self.now }
     {
-        self.standard_solutions() > usize::from(!self.problem.is_standard())
+        self.standard_others() > usize::from(!self.problem.is_standard())
     }
 
-    /// How many of the files of solutions are standard input.
-    fn standard_solutions(&self) -> usize
-        ensures { result ≡ count_by is_standard self.now.solutions.items }
+    /// How many of the files behind the problem's are standard input.
+    fn standard_others(&self) -> usize
+        ensures { result ≡ count_by is_standard self.now.others.items }
     {
-        let solutions = self.solutions.iter();
-        solutions.filter(|name| name.is_standard()).count()
+        let others = self.others.iter();
+        others.filter(|name| name.is_standard()).count()
     }
 }
 
-/// The files of the solutions that these words name.
-fn solution_files<'w>(
+/// The files that these words name, and after them the one that is named last, where there is one.
+fn other_files<'w>(
     alloc: Global,
     words: Option<&[&'w str]>,
-) -> Result<Vec<FileName<'w>>, Refusal<'w>>
+    last: Option<&'w str>,
+) -> Result<Vec<FileName<'w>>, AllocError>
     ensures { MatchResult result
-        (λ files. AreGivenBy (option_map (λ ws. map (λ w. w.now) ws.now) words.entry) files.items)
-        (λ refusal. (refusal ≡ Memory) × (is_some words.entry ≡ true)) }
+        (λ files. AreNamedBy (other_words (option_map (λ ws. map (λ w. w.now) ws.now) words.entry) (option_map (λ w. w.now) last.entry)) files.items)
+        (λ _. is_some words.entry || is_some last.entry ≡ true) }
 {
-    match words {
-        Some(words) => Ok(file_names(alloc, words)?),
-        None => Ok(Vec::new(alloc)),
-    }
+    let mut files = file_names(alloc, words)?;
+    let Some(word) = last else {
+        return Ok(files);
+    };
+    files.push(file_name(word))?;
+    Ok(files)
 }
 
-fn file_names<'w>(alloc: Global, words: &[&'w str]) -> Result<Vec<FileName<'w>>, AllocError>
-    ensures { IfOk result (λ names. AreNamedBy (map (λ w. w.now) words.now) names.items) }
+/// The files that these words name.
+fn file_names<'w>(alloc: Global, words: Option<&[&'w str]>) -> Result<Vec<FileName<'w>>, AllocError>
+    ensures { MatchResult result
+        (λ files. AreNamedBy (unwrap_or (option_map (λ ws. map (λ w. w.now) ws.now) words.entry) []) files.items)
+        (λ _. is_some words.entry ≡ true) }
 {
     let mut names = Vec::new(alloc);
+    let Some(words) = words else {
+        return Ok(names);
+    };
     for word in words {
         names.push(file_name(word))?;
     }

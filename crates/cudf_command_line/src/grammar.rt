@@ -1,7 +1,7 @@
 //! The commands, their options and the texts of help.
 ghost use Rattle.std.specs.Prelude.{◌≡◌, IfOk, false};
 ghost use Rattle.clap.specs.Words.{rule_of};
-ghost use Rattle.cudf_command_line.specs.Grammar.{problem_word, solution_word, after_option, limit_option, solutions_word, proof_word, criteria_option, needed_criteria, strict_flag, explain_flag, filename_flag, lint_grammar, check_grammar, score_grammar, rank_grammar, cnf_grammar, refute_grammar, grammar, IsOf};
+ghost use Rattle.cudf_command_line.specs.Grammar.{problem_word, solution_word, after_option, limit_option, solutions_word, proof_word, better_option, criteria_option, needed_criteria, strict_flag, explain_flag, filename_flag, lint_grammar, check_grammar, score_grammar, rank_grammar, cnf_grammar, refute_grammar, grammar, IsOf};
 
 use clap::{Arg, ArgAction, Command};
 use std::alloc::{AllocError, Global};
@@ -32,6 +32,8 @@ pub(crate) const PROOF: &str = "proof";
 pub(crate) const AFTER: &str = "after";
 
 pub(crate) const LIMIT: &str = "limit";
+
+pub(crate) const BETTER_THAN: &str = "better-than";
 
 pub(crate) const CRITERIA: &str = "criteria";
 
@@ -79,11 +81,17 @@ const ABOUT_CNF_LINES: &str = "Prints the rules of a problem as a CNF, for a SAT
 
 It is in DIMACS: a comment for each package, such as c p1 car 1, with its
 number, name and version, and clauses. A model installs the packages of its
-positive numbers, and is a solution. refute checks a proof that there is none.";
+positive numbers, and is a solution. refute checks a proof that there is none.
 
-const ABOUT_REFUTE: &str = "Checks a proof that a problem has no solution";
+  cudf_check cnf problem.cudf --better-than=S --criteria=-removed > cnf
 
-const ABOUT_REFUTE_LINES: &str = "Checks a proof that a problem has no solution.
+prints a CNF whose models are the solutions that are better than the answer S:
+clauses over more variables follow those of the rules. For S that is not a
+solution this prints solution no.";
+
+const ABOUT_REFUTE: &str = "Checks a proof that a problem has no solution, or no better one";
+
+const ABOUT_REFUTE_LINES: &str = "Checks a proof that a problem has no solution, or no better one.
 
   cudf_check cnf problem.cudf > cnf
   cadical --lrat --no-binary cnf proof
@@ -91,7 +99,12 @@ const ABOUT_REFUTE_LINES: &str = "Checks a proof that a problem has no solution.
 
 The proof is in LRAT's text form. If it holds, this prints rules of which every
 answer violates one, and then no solution exists. Otherwise it prints the
-proof's first error, which says nothing about the problem.";
+proof's first error, which says nothing about the problem.
+
+  cudf_check refute problem.cudf proof --better-than=S --criteria=-removed
+
+checks a proof against the CNF that cnf prints for these options. If it holds,
+this prints the counts of S, and then no better solution exists.";
 
 const ABOUT_LINT: &str = "Checks that a file is a well-formed problem";
 
@@ -206,6 +219,8 @@ fn cnf_command<'w>(alloc: Global) -> Result<Command<'w>, AllocError>
         .long_about(ABOUT_CNF_LINES)
         .after_help(STATUSES)
         .arg(problem(alloc))?
+        .arg(better_than(alloc))?
+        .arg(compared(alloc))?
         .arg(strict(alloc))
 }
 
@@ -218,6 +233,8 @@ fn refute_command<'w>(alloc: Global) -> Result<Command<'w>, AllocError>
         .after_help(STATUSES)
         .arg(problem(alloc))?
         .arg(proof(alloc))?
+        .arg(better_than(alloc))?
+        .arg(compared(alloc))?
         .arg(strict(alloc))?
         .arg(explain(alloc))
 }
@@ -291,12 +308,28 @@ fn criteria<'w>(alloc: Global) -> Arg<'w>
         .help("The counts to print, as in --criteria=-removed,+new")
 }
 
+fn compared<'w>(alloc: Global) -> Arg<'w>
+    ensures rule { rule_of result ≡ criteria_option }
+    ensures local { result.global ≡ false }
+{
+    criteria(alloc).help("The counts to compare, as in --criteria=-removed,+new")
+}
+
 fn needed_criteria<'w>(alloc: Global) -> Arg<'w>
     ensures rule { rule_of result ≡ needed_criteria }
     ensures local { result.global ≡ false }
 {
-    let list = criteria(alloc).help("The counts to compare, as in --criteria=-removed,+new");
-    list.required(true)
+    compared(alloc).required(true)
+}
+
+fn better_than<'w>(alloc: Global) -> Arg<'w>
+    ensures rule { rule_of result ≡ better_option }
+    ensures local { result.global ≡ false }
+{
+    Arg::new(alloc, BETTER_THAN)
+        .long(BETTER_THAN)
+        .value_name("S")
+        .help("Only solutions better than S, by --criteria")
 }
 
 fn strict<'w>(alloc: Global) -> Arg<'w>

@@ -8,7 +8,7 @@ mod shown;
 mod topic;
 mod usage;
 
-pub use command::{FileName, Order, Work};
+pub use command::{FileName, Order};
 pub use refusal::Refusal;
 pub use topic::Topic;
 pub use usage::Usage;

@@ -17,6 +17,10 @@ pub enum Refusal<'w> {
     NoList(&'w str),
     /// `--criteria` and its list are two words.
     Apart,
+    /// One of `--better-than` and `--criteria` is there without the other.
+    Unpaired,
+    /// `--explain` is there beside `--better-than`.
+    Explained,
     /// Memory ran out.
     Memory,
 }
@@ -36,7 +40,9 @@ impl Refusal<'_> {
             | Refusal::NoKey(_)
             | Refusal::NoNumber(_)
             | Refusal::NoList(_)
-            | Refusal::Apart => 4,
+            | Refusal::Apart
+            | Refusal::Unpaired
+            | Refusal::Explained => 4,
         }
     }
 }
@@ -70,6 +76,14 @@ impl fmt::Display for Refusal<'_> {
             Refusal::Apart => write!(
                 f,
                 "equal sign is needed when assigning values to '--criteria=<LIST>': the list is written after it, as --criteria=-removed"
+            ),
+            Refusal::Unpaired => write!(
+                f,
+                "--better-than=<S> and --criteria=<LIST> go together: give both, or neither"
+            ),
+            Refusal::Explained => write!(
+                f,
+                "--explain isn't an option of refute with --better-than"
             ),
             Refusal::Memory => write!(f, "there is not enough memory"),
         }

@@ -156,7 +156,8 @@ fn unexpected_text(alloc: Global, text: &str) -> Result<String, AllocError> {
 fn owners(option: &str) -> Option<&'static str> {
     match option {
         "--after" | "--limit" => Some("check"),
-        "--criteria" => Some("score and rank"),
+        "--criteria" => Some("score, rank, cnf and refute"),
+        "--better-than" => Some("cnf and refute"),
         "--explain" => Some("lint, check and refute"),
         "--strict" => Some("each command"),
         "--with-filename" | "-H" => Some("lint, check, score and rank"),

@@ -1,5 +1,5 @@
 -- Files in a row: the devices over them, and the bytes that these give.
-use Rattle.std.proofs.Common.{◌≡◌, ◌≢◌, ◌+◌, ◌<◌, ◌≤◌, ◌⊎◌, ℕ, Bool, suc, zero, true, false, cond, ◌||◌, List, [], ◌∷◌, ◌++◌, map, take, drop, count_by, Vec, Global, length, get_or, nat_lt, IfOk, IsErrOf, ◌↔◌, IfSome, Option, Some, None, option_map, Result, Ok, Err, MatchResult, IsErr, inl, inr, refl, sym, ap, ◌∙◌, subst, arith}
+use Rattle.std.proofs.Common.{◌≡◌, ◌≢◌, ◌+◌, ◌<◌, ◌≤◌, ◌⊎◌, ℕ, Bool, suc, zero, true, false, cond, ◌||◌, List, [], ◌∷◌, ◌++◌, map, take, drop, count_by, length, get_or, nat_lt, IfOk, IsErrOf, ◌↔◌, IfSome, Option, Some, None, option_map, Result, Ok, Err, MatchResult, IsErr, inl, inr, refl, sym, ap, ◌∙◌, subst, arith}
 use Rattle.std.proofs.lemmas.Grind.{common_steps}
 use Rattle.std.proofs.lemmas.Bool.{cases_lt, ltb-false}
 use Rattle.std.proofs.lemmas.List.Sums.{sum_by-cons, sum_by-drop_more}
@@ -7,30 +7,24 @@ use Rattle.std.specs.List.{AllZip}
 use Rattle.std.specs.Option.{option_to_list}
 use Rattle.std.specs.Result.{IsErrAnd}
 use Rattle.cudf_device.specs.Readers.{Change, IsTooLong, OfOne, ReadsAll, change, changes, most_bytes}
-use Rattle.cudf_check.specs.Runs.{HoldsOfReport as Whole, Runs, job_report, read_for}
+use Rattle.cudf_check.specs.Runs.{HoldsOfReport as Whole, Runs}
 use Rattle.cudf_device.specs.Writers.{AppendsPrefix}
-use Rattle.cudf_check.specs.RankReport.{rank_report}
-use Rattle.cudf_check.specs.Report.{report}
+use Rattle.cudf_check.specs.JobReport.{report}
 use Rattle.cudf_device.specs.Outcomes.{Report}
 use Rattle.cudf_job.specs.declared.job.Job.{Job}
-use Rattle.cudf_job.specs.declared.job.Job.TheVariants.{Lint, Check, Score, Cnf, Refute}
 use Rattle.std.specs.Io.KnownBytes.{Appends, Consumes, Keeps}
 use Rattle.cudf_device.specs.Device.{SinkState, SourceState}
-use Rattle.cudf_check.specs.Naming.{Names, names_of}
 use Rattle.cudf_device.specs.declared.outcome.Outcome.{Outcome}
 use Rattle.cudf_device.specs.declared.outcome.RunError.{RunError}
 use Rattle.cudf_device.specs.declared.outcome.RunError.TheVariants.{TooLong, Write}
 use Rattle.cudf_problem.specs.declared.mode.Mode.{Mode}
-use Rattle.cudf_job.specs.declared.aims.Aim.{Aim}
 use Rattle.cudf_program.specs.Failure.{IsStatusOf, Prints, failure_status}
 use Rattle.cudf_program.specs.Inputs.{IsFirstUnopened, IsGivenFor, IsHeldBy, IsOpenable, IsOpenedAs, IsThere, IsUnopened, KeepsGiven, Opens, ReaderOf, left_behind}
-use Rattle.cudf_program.specs.Program.{AreShort, Did, Fails, Finishes, IsDone, IsKnownAs, IsTried, HoldsOfKnown, labels, names_in, read_by, texts_read, work_report}
+use Rattle.cudf_program.specs.Program.{AreShort, Did, Fails, Finishes, IsDone, IsKnownAs, IsTried, HoldsOfKnown, labels, names_in}
 use Rattle.cudf_command_line.specs.Command.{is_standard}
 use Rattle.cudf_command_line.specs.declared.command.FileName.{FileName}
 use Rattle.cudf_command_line.specs.declared.command.FileName.TheVariants.{Path, Standard}
 use Rattle.cudf_command_line.specs.declared.command.Order.{Order}
-use Rattle.cudf_command_line.specs.declared.command.Work.{Work}
-use Rattle.cudf_command_line.specs.declared.command.Work.TheVariants.{Run as RunOf, Rank as RankOf}
 use Rattle.cudf_program.specs.declared.failure.Failure.{Failure}
 use Rattle.cudf_program.specs.declared.Task.{Task}
 
@@ -69,69 +63,6 @@ kept (Some xs) (Some ys) bytes none h = sym (h ∙ ap (λ front. front ++ ys) no
 
 -- ---- runs
 
--- some bytes of which as much is known
-abbrev filling : Option (List ℕ) → List ℕ
-filling None = []
-filling (Some bytes) = bytes
-
-filled : (known : List (Option (List ℕ))) → AllZip IsKnownAs known (map filling known)
-filled [] = tt
-filled (None ∷ known) = (tt, filled known)
-filled (Some bytes ∷ known) = (refl, filled known)
-
--- what is known of the solutions, of which a run has read the first
-abbrev knowns : Option (Change SourceState) → List (Option (List ℕ)) → List (Option (List ℕ))
-knowns None rest = []
-knowns (Some reader) rest = reader.before.remaining ∷ rest
-
--- their names
-abbrev names_known : Option (Change SourceState) → List (Option (List ℕ)) → List (Option (List ℕ))
-names_known None rest = []
-names_known (Some reader) rest = reader.before.name ∷ rest
-
--- the names of a run's inputs
-abbrev all_names : Change SourceState → Option (Change SourceState) → List (Option (List ℕ)) → Names
-all_names input solution rest = record { first = input.before.name; others = names_known solution rest }
-
--- texts of which this is known, with the same report under all names as these have under the names of the inputs that are read
-abbrev HasOthers : Job → Mode → Names → Names → List ℕ → List (List ℕ) → List (Option (List ℕ)) → Type 0
-HasOthers job mode read all text texts known = (others : List (List ℕ)) × AllZip IsKnownAs known others × (job_report job mode read text texts ≡ job_report job mode all text others) × AreShort (texts_read (RunOf job) others)
-
-others_of : (job : Job) (mode : Mode) (text : List ℕ) (input : Change SourceState) (solution : Option (Change SourceState)) (texts : List (List ℕ)) (names rest : List (Option (List ℕ)))
-    → AllZip ReadsAll (read_for job (option_to_list solution)) texts → AreShort texts
-    → HasOthers job mode (names_of input (read_for job (option_to_list solution))) (all_names input solution names) text texts (knowns solution rest)
-unfolding report
-others_of (Lint explain) mode text input None [] names rest h short = ([], tt, refl, tt)
-others_of (Lint explain) mode text input None (bytes ∷ texts) names rest h short = absurd h
-others_of (Check after limit explain) mode text input None [] names rest h short = ([], tt, refl, tt)
-others_of (Check after limit explain) mode text input None (bytes ∷ texts) names rest h short = absurd h
-others_of (Score aims) mode text input None [] names rest h short = ([], tt, refl, tt)
-others_of (Score aims) mode text input None (bytes ∷ texts) names rest h short = absurd h
-others_of Cnf mode text input None [] names rest h short = ([], tt, refl, tt)
-others_of Cnf mode text input None (bytes ∷ texts) names rest h short = absurd h
-others_of (Refute explain) mode text input None [] names rest h short = ([], tt, refl, tt)
-others_of (Refute explain) mode text input None (bytes ∷ texts) names rest h short = absurd h
-others_of (Lint explain) mode text input (Some reader) texts names rest h short = (map filling (knowns (Some reader) rest), filled (knowns (Some reader) rest), refl, tt)
-others_of Cnf mode text input (Some reader) texts names rest h short = (map filling (knowns (Some reader) rest), filled (knowns (Some reader) rest), refl, tt)
-others_of (Check after limit explain) mode text input (Some reader) [] names rest h short = absurd h
-others_of (Check after limit explain) mode text input (Some reader) (bytes ∷ []) names rest h short = (bytes ∷ map filling rest, (all_known reader bytes h.0, filled rest), refl, (short.0, tt))
-others_of (Check after limit explain) mode text input (Some reader) (bytes ∷ other ∷ texts) names rest h short = absurd h.1
-others_of (Score aims) mode text input (Some reader) [] names rest h short = absurd h
-others_of (Score aims) mode text input (Some reader) (bytes ∷ []) names rest h short = (bytes ∷ map filling rest, (all_known reader bytes h.0, filled rest), refl, (short.0, tt))
-others_of (Score aims) mode text input (Some reader) (bytes ∷ other ∷ texts) names rest h short = absurd h.1
-others_of (Refute explain) mode text input (Some reader) [] names rest h short = absurd h
-others_of (Refute explain) mode text input (Some reader) (bytes ∷ []) names rest h short = (bytes ∷ map filling rest, (all_known reader bytes h.0, filled rest), refl, (short.0, tt))
-others_of (Refute explain) mode text input (Some reader) (bytes ∷ other ∷ texts) names rest h short = absurd h.1
-
-of_run : (P : Report → Type 0) (job : Job) (mode : Mode) (input : Change SourceState) (solution : Option (Change SourceState)) (names rest : List (Option (List ℕ)))
-    → (IsTooLong input ⊎ OfOne IsTooLong (read_for job (option_to_list solution)) → ⊥) → Whole (job_report job mode) input (read_for job (option_to_list solution)) P
-    → HoldsOfKnown (RunOf job) mode (all_names input solution names) input.before.remaining (knowns solution rest) P
-of_run P job mode input solution names rest none h =
-    let short : AreShort (h.text ∷ h.texts) = all_short (input ∷ read_for job (option_to_list solution)) (h.text ∷ h.texts) (h.first_read, h.others_read) none in
-    let o : HasOthers job mode (names_of input (read_for job (option_to_list solution))) (all_names input solution names) h.text h.texts (knowns solution rest)
-    = others_of job mode h.text input solution h.texts names rest h.others_read short.1 in
-    record { first = h.text; others = o.0; first_is = all_known input h.text h.first_read; others_are = o.1; short = (short.0, o.3); holds = subst P o.2 h.holds }
-
 -- an outcome, or a failed write, comes of no input that is too long
 done_then : {L : Type 0} {P Q : Outcome → Type 0} (result : Result Outcome RunError) → (IsErrOf result TooLong ↔ L) → ((outcome : Outcome) → (L → ⊥) → P outcome → Q outcome) → IfOk result P → IfOk result Q
 done_then (Ok outcome) long f h = f outcome (λ l. absurd (not_err outcome (long.1 l))) h
@@ -143,19 +74,6 @@ done_then (Err error) long f h = h
 not_long : {L : Type 0} (result : Result Outcome RunError) → (IsErrOf result TooLong ↔ L) → IsErrOf result Write → L → ⊥
 not_long result long failed l = let told : IsErrOf result TooLong = long.1 l in cc
 
--- a run on a problem, and on the first solution where there is one
-did_run : (job : Job) (mode : Mode) (input : Change SourceState) (solution : Option (Change SourceState)) (names rest : List (Option (List ℕ)))
-    (out : Change SinkState) (result : Result Outcome RunError) → Runs (job_report job mode) input (read_for job (option_to_list solution)) out result
-    → Did (RunOf job) mode (all_names input solution names) input.before.remaining (knowns solution rest) out result
-did_run job mode input solution names rest out result runs = record {
-  done = done_then result runs.too_long (λ outcome none h. of_run (λ r. Appends out.before.contents out.after.contents r.text × (outcome ≡ r.outcome)) job mode input solution names rest none h) runs.done;
-  cut_short = λ failed. of_run (λ r. AppendsPrefix out.before.contents out.after.contents r.text) job mode input solution names rest (not_long result runs.too_long failed) (runs.cut_short failed);
-  untouched = runs.untouched;
-  write = runs.write;
-}
-
--- ---- rankings
-
 -- the names of readers are those that they had before
 same_names : {D : Type 0} (state : D → SourceState) (olds news : List D) → length news ≡ length olds → map (λ r. r.before.name) (changes state olds news) ≡ map (λ d. (state d).name) olds
 same_names state [] [] same = refl
@@ -163,40 +81,28 @@ same_names state [] (new ∷ news) same = absurd (omega arith)
 same_names state (old ∷ olds) [] same = absurd (omega arith)
 same_names state (old ∷ olds) (new ∷ news) same = ap (λ names. (state old).name ∷ names) (same_names state olds news (omega arith))
 
-of_ranking : {D : Type 0} (P : Report → Type 0) (state : D → SourceState) (aims : Vec Aim Global) (mode : Mode) (problem : Change SourceState) (olds news : List D)
-    → length news ≡ length olds → (IsTooLong problem ⊎ OfOne IsTooLong (changes state olds news) → ⊥) → Whole (rank_report aims.items mode) problem (changes state olds news) P
-    → HoldsOfKnown (RankOf aims) mode (record { first = problem.before.name; others = map (λ d. (state d).name) olds }) problem.before.remaining (map (λ d. (state d).remaining) olds) P
-of_ranking P state aims mode problem olds news same none h = record {
-  first = h.text;
-  others = h.texts;
-  first_is = all_known problem h.text h.first_read;
-  others_are = each_known state (λ d. (state d).remaining) (λ d. refl) olds news h.texts same h.others_read;
-  short = all_short (problem ∷ changes state olds news) (h.text ∷ h.texts) (h.first_read, h.others_read) none;
-  holds = subst (λ names. P (rank_report aims.items mode (record { first = problem.before.name; others = names }) h.text h.texts)) (same_names state olds news same) h.holds;
-}
+-- devices, of which a run has read these inputs
+module _ {D : Type 0} (state : D → SourceState) (job : Job) (mode : Mode) (first : Change SourceState) (olds news : List D) (same : length news ≡ length olds) where
+  of_run : (P : Report → Type 0) → (IsTooLong first ⊎ OfOne IsTooLong (changes state olds news) → ⊥) → Whole (report job mode) first (changes state olds news) P
+      → HoldsOfKnown job mode (record { first = first.before.name; others = map (λ d. (state d).name) olds }) first.before.remaining (map (λ d. (state d).remaining) olds) P
+  of_run P none h = record {
+    first = h.text;
+    others = h.texts;
+    first_is = all_known first h.text h.first_read;
+    others_are = each_known state (λ d. (state d).remaining) (λ d. refl) olds news h.texts same h.others_read;
+    short = all_short (first ∷ changes state olds news) (h.text ∷ h.texts) (h.first_read, h.others_read) none;
+    holds = subst (λ names. P (report job mode (record { first = first.before.name; others = names }) h.text h.texts)) (same_names state olds news same) h.holds;
+  }
 
-did_ranking : {D : Type 0} (state : D → SourceState) (aims : Vec Aim Global) (mode : Mode) (problem : Change SourceState) (olds news : List D)
-    (out : Change SinkState) (result : Result Outcome RunError) → length news ≡ length olds → Runs (rank_report aims.items mode) problem (changes state olds news) out result
-    → Did (RankOf aims) mode (record { first = problem.before.name; others = map (λ d. (state d).name) olds }) problem.before.remaining (map (λ d. (state d).remaining) olds) out result
-did_ranking state aims mode problem olds news out result same runs = record {
-  done = done_then result runs.too_long (λ outcome none h. of_ranking (λ r. Appends out.before.contents out.after.contents r.text × (outcome ≡ r.outcome)) state aims mode problem olds news same none h) runs.done;
-  cut_short = λ failed. of_ranking (λ r. AppendsPrefix out.before.contents out.after.contents r.text) state aims mode problem olds news same (not_long result runs.too_long failed) (runs.cut_short failed);
-  untouched = runs.untouched;
-  write = runs.write;
-}
-
--- ---- work
-
--- what was done to devices is what was done to inputs of which they tell the bytes
-pub did : {D : Type 0} (state : D → SourceState) (work : Work) (mode : Mode) (problem : Change SourceState) (olds news : List D)
-    (out : Change SinkState) (result : Result Outcome RunError) → length news ≡ length olds
-    → Runs (work_report work mode) problem (read_by work (changes state olds news)) out result
-    → Did work mode (record { first = problem.before.name; others = map (λ d. (state d).name) olds }) problem.before.remaining (map (λ d. (state d).remaining) olds) out result
-did state (RankOf aims) mode problem olds news out result same runs = did_ranking state aims mode problem olds news out result same runs
-did state (RunOf job) mode problem [] news out result same runs = did_run job mode problem None [] [] out result runs
-did state (RunOf job) mode problem (old ∷ olds) [] out result same runs = absurd (omega arith)
-did state (RunOf job) mode problem (old ∷ olds) (new ∷ news) out result same runs =
-    did_run job mode problem (Some (change state old new)) (map (λ d. (state d).name) olds) (map (λ d. (state d).remaining) olds) out result runs
+  -- what was done to the devices is what was done to inputs of which they tell the bytes
+  pub did : (out : Change SinkState) (result : Result Outcome RunError) → Runs (report job mode) first (changes state olds news) out result
+      → Did job mode (record { first = first.before.name; others = map (λ d. (state d).name) olds }) first.before.remaining (map (λ d. (state d).remaining) olds) out result
+  did out result runs = record {
+    done = done_then result runs.too_long (λ outcome none h. of_run (λ r. Appends out.before.contents out.after.contents r.text × (outcome ≡ r.outcome)) none h) runs.done;
+    cut_short = λ failed. of_run (λ r. AppendsPrefix out.before.contents out.after.contents r.text) (not_long result runs.too_long failed) (runs.cut_short failed);
+    untouched = runs.untouched;
+    write = runs.write;
+  }
 
 -- ---- files by name
 
@@ -297,11 +203,11 @@ none_taken false n h = omega (arith, ltb-false 0 n (sym h))
 
 -- for an order for which it is given there is enough of it
 pub enough : {S : Type 0} (order : Order) (standard : Option S) → IsGivenFor order standard
-    → one_if (is_standard order.problem) + count_by is_standard order.solutions.items ≤ length (option_to_list standard)
-enough order None is = none_taken (is_standard order.problem) (count_by is_standard order.solutions.items) is.given
+    → one_if (is_standard order.problem) + count_by is_standard order.others.items ≤ length (option_to_list standard)
+enough order None is = none_taken (is_standard order.problem) (count_by is_standard order.others.items) is.given
 enough order (Some given) is =
-    let counted = sum_by-cons (λ name. one_if (is_standard name)) order.problem order.solutions.items in
-    omega (arith, counted, ltb-false 1 (count_by is_standard (order.problem ∷ order.solutions.items)) is.once)
+    let counted = sum_by-cons (λ name. one_if (is_standard name)) order.problem order.others.items in
+    omega (arith, counted, ltb-false 1 (count_by is_standard (order.problem ∷ order.others.items)) is.once)
 
 -- ---- what is done
 
@@ -311,16 +217,16 @@ refused P Q error (Ok value) is h = absurd is.1
 refused P Q error (Err e) is h = subst Q (sym is.1) h
 
 pub done : {F S : Type 0} (opens : Opens) (standard : Option (Option (List ℕ))) (left : ReaderOf F S → Option (List ℕ)) (order : Order) (task : Task F S) (out : Change SinkState) (status : ℕ)
-    → task.order ≡ order → IsOpenedAs opens standard left order.problem task.problem → AllZip (IsOpenedAs opens standard left) order.solutions.items task.solutions.items
+    → task.order ≡ order → IsOpenedAs opens standard left order.problem task.problem → AllZip (IsOpenedAs opens standard left) order.others.items task.others.items
     → names_in task ≡ labels order → Finishes left task out status → IsDone opens standard order out status
-done opens standard left order task out status order_is problem_is solutions_are named finished = record {
+done opens standard left order task out status order_is problem_is others_are named finished = record {
   problem = left task.problem;
-  solutions = map left task.solutions.items;
+  others = map left task.others.items;
   problem_is = problem_is;
-  solutions_are = each_held opens standard left order.solutions.items task.solutions.items solutions_are;
+  others_are = each_held opens standard left order.others.items task.others.items others_are;
   answer = finished.answer;
-  did = subst (λ names. Did order.work order.mode names (left task.problem) (map left task.solutions.items) out finished.answer) named
-      (subst (λ (o : Order). Did o.work o.mode (names_in task) (left task.problem) (map left task.solutions.items) out finished.answer) order_is finished.did);
+  did = subst (λ names. Did order.job order.mode names (left task.problem) (map left task.others.items) out finished.answer) named
+      (subst (λ (o : Order). Did o.job o.mode (names_in task) (left task.problem) (map left task.others.items) out finished.answer) order_is finished.did);
   status_is = finished.status_is;
 }
 
@@ -344,9 +250,9 @@ pub tried_anyway : (opens : Opens) (standard : Option (Option (List ℕ))) (orde
     → IsTried opens None order out status → IsTried opens standard order out status
 tried_anyway opens standard order out status (inl h) = inl (record {
   problem = h.problem;
-  solutions = h.solutions;
+  others = h.others;
   problem_is = held_anyway opens standard order.problem h.problem h.problem_is;
-  solutions_are = each_weaker (IsHeldBy opens None) (IsHeldBy opens standard) (held_anyway opens standard) order.solutions.items h.solutions h.solutions_are;
+  others_are = each_weaker (IsHeldBy opens None) (IsHeldBy opens standard) (held_anyway opens standard) order.others.items h.others h.others_are;
   answer = h.answer;
   did = h.did;
   status_is = h.status_is;

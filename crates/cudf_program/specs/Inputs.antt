@@ -87,7 +87,7 @@ IsClosed failure = (error : Error) × (failure ≡ open_failure (error_kind erro
 -- the first is reported; or memory ran out
 abbrev pub IsOfFiles : Opens → Order → Failure → Type 0
 IsOfFiles opens order failure =
-    (IsTrue (takes_standard order) × IsClosed failure) ⊎ (IsFirstUnopened opens (order.problem ∷ order.solutions.items) failure ⊎ (failure ≡ Memory))
+    (IsTrue (takes_standard order) × IsClosed failure) ⊎ (IsFirstUnopened opens (order.problem ∷ order.others.items) failure ⊎ (failure ≡ Memory))
 
 -- ---- standard input
 

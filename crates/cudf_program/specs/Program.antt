@@ -1,60 +1,38 @@
 -- What the program prints on standard output, and its exit status.
-use Rattle.std.specs.Prelude.{◌≡◌, ◌≢◌, ◌<◌, ◌≤◌, ◌⊎◌, ◌↔◌, ℕ, List, [], ◌∷◌, length, map, take, false, Option, Some, None, Result, Ok, Err, IfOk, IfErr, IsErrOf}
+use Rattle.std.specs.Prelude.{◌≡◌, ◌≢◌, ◌<◌, ◌≤◌, ◌⊎◌, ◌↔◌, ℕ, List, [], ◌∷◌, length, map, false, Option, Some, None, Result, Ok, Err, IfOk, IfErr, IsErrOf}
 use Rattle.std.specs.List.{AllZip}
 use Rattle.std.specs.Io.KnownBytes.{Appends, Keeps}
 use Rattle.std.specs.IoError.{error_kind}
 use Rattle.std.specs.declared.io.Error.{Error}
 use Rattle.std.specs.declared.io.ErrorKind.TheVariants.{OutOfMemory}
 use Rattle.cudf_problem.specs.declared.mode.Mode.{Mode}
-use Rattle.cudf_device.specs.Device.{SinkState, SourceState}
+use Rattle.cudf_device.specs.Device.{SinkState}
 use Rattle.cudf_device.specs.Promises.NamedInside.{name_of}
 use Rattle.cudf_check.specs.Naming.{Names}
 use Rattle.cudf_device.specs.Readers.{Change, most_bytes}
-use Rattle.cudf_check.specs.Runs.{job_report, read_for}
 use Rattle.cudf_device.specs.Writers.{AppendsPrefix}
-use Rattle.cudf_check.specs.RankReport.{rank_report}
+use Rattle.cudf_check.specs.JobReport.{report}
 use Rattle.cudf_device.specs.Outcomes.{Report}
 use Rattle.cudf_device.specs.declared.outcome.Outcome.{Outcome}
 use Rattle.cudf_device.specs.declared.outcome.RunError.{RunError}
 use Rattle.cudf_device.specs.declared.outcome.RunError.TheVariants.{Write}
 use Rattle.cudf_program.specs.Failure.{IsStatusOf, Prints, answer_status, failure_status, words_failure}
 use Rattle.cudf_program.specs.Inputs.{IsHeldBy, IsOfFiles, Opens, ReaderOf, label}
-use Rattle.cudf_job.specs.declared.job.Job.TheVariants.{Lint, Cnf}
+use Rattle.cudf_job.specs.declared.job.Job.{Job}
 use Rattle.cudf_command_line.specs.Command.{takes_standard}
 use Rattle.cudf_command_line.specs.Orders.{IsAskedFor, IsUnasked}
 use Rattle.cudf_program.specs.declared.Task.{Task}
 use Rattle.cudf_command_line.specs.declared.command.Order.{Order}
-use Rattle.cudf_command_line.specs.declared.command.Work.{Work}
-use Rattle.cudf_command_line.specs.declared.command.Work.TheVariants.{Run, Rank}
 use Rattle.cudf_command_line.specs.declared.usage.Usage.{Usage}
 use Rattle.cudf_program.specs.declared.failure.Failure.{Failure}
 use Rattle.cudf_program.specs.declared.failure.Failure.TheVariants as reason
 
--- ---- work
-
--- the report of inputs of these names and bytes; a run is on the first solution, where there is one
-abbrev pub work_report : Work → Mode → Names → List ℕ → List (List ℕ) → Report
-work_report (Run job) mode = job_report job mode
-work_report (Rank aims) mode = rank_report aims.items mode
-
--- the readers of solutions that the work reads: a run the first at most
-abbrev pub read_by : Work → List (Change SourceState) → List (Change SourceState)
-read_by (Run job) solutions = read_for job (take 1 solutions)
-read_by (Rank aims) solutions = solutions
-
--- the texts of solutions that the work reads, likewise
-abbrev pub texts_read : Work → List (List ℕ) → List (List ℕ)
-texts_read (Run (Lint explain)) solutions = []
-texts_read (Run Cnf) solutions = []
-texts_read (Run job) solutions = take 1 solutions
-texts_read (Rank aims) solutions = solutions
+-- ---- what is done
 
 -- none of the texts has more bytes than an input may have
 abbrev pub AreShort : List (List ℕ) → Type 0
 AreShort [] = Unit {0}
 AreShort (text ∷ texts) = (length text ≤ most_bytes) × AreShort texts
-
--- ---- what is done
 
 -- these are the bytes, where they are known
 abbrev pub IsKnownAs : Option (List ℕ) → List ℕ → Type 0
@@ -63,23 +41,23 @@ IsKnownAs (Some known) bytes = bytes ≡ known
 
 -- how lines name the files of an order
 abbrev pub labels : Order → Names
-labels order = record { first = label order.names_files order.problem; others = map (label order.names_files) order.solutions.items }
+labels order = record { first = label order.names_files order.problem; others = map (label order.names_files) order.others.items }
 
--- this holds of the report of inputs of these names, of which this is known; none that is read is longer than an input may be
-pub record HoldsOfKnown (work : Work) (mode : Mode) (names : Names) (problem : Option (List ℕ)) (solutions : List (Option (List ℕ))) (P : Report → Type 0) : Type 0 where
+-- this holds of the report of inputs of these names, of which this is known; none is longer than an input may be
+pub record HoldsOfKnown (job : Job) (mode : Mode) (names : Names) (problem : Option (List ℕ)) (known : List (Option (List ℕ))) (P : Report → Type 0) : Type 0 where
   pub first : List ℕ
   pub others : List (List ℕ)
   pub first_is : IsKnownAs problem first
-  pub others_are : AllZip IsKnownAs solutions others
-  pub short : AreShort (first ∷ texts_read work others)
-  pub holds : P (work_report work mode names first others)
+  pub others_are : AllZip IsKnownAs known others
+  pub short : AreShort (first ∷ others)
+  pub holds : P (report job mode names first others)
 
--- what some work on such inputs did to the output, and its answer
-pub record Did (work : Work) (mode : Mode) (names : Names) (problem : Option (List ℕ)) (solutions : List (Option (List ℕ))) (out : Change SinkState) (answer : Result Outcome RunError) : Type 0 where
+-- what a job on such inputs did to the output, and its answer
+pub record Did (job : Job) (mode : Mode) (names : Names) (problem : Option (List ℕ)) (others : List (Option (List ℕ))) (out : Change SinkState) (answer : Result Outcome RunError) : Type 0 where
   -- an outcome: the whole report was printed, and the outcome is the report's
-  pub done : IfOk answer (λ outcome. HoldsOfKnown work mode names problem solutions (λ r. Appends out.before.contents out.after.contents r.text × (outcome ≡ r.outcome)))
+  pub done : IfOk answer (λ outcome. HoldsOfKnown job mode names problem others (λ r. Appends out.before.contents out.after.contents r.text × (outcome ≡ r.outcome)))
   -- `Write`: a prefix of the report was printed
-  pub cut_short : IsErrOf answer Write → HoldsOfKnown work mode names problem solutions (λ r. AppendsPrefix out.before.contents out.after.contents r.text)
+  pub cut_short : IsErrOf answer Write → HoldsOfKnown job mode names problem others (λ r. AppendsPrefix out.before.contents out.after.contents r.text)
   -- any other error: nothing was printed
   pub untouched : IfErr answer (λ e. e ≢ Write → Keeps out.before.contents out.after.contents)
   -- `Write` exactly where a write failed
@@ -87,12 +65,12 @@ pub record Did (work : Work) (mode : Mode) (names : Names) (problem : Option (Li
 
 -- the names of a task's readers
 abbrev pub names_in : {F S : Type 0} → Task F S → Names
-names_in task = record { first = name_of task.problem; others = map name_of task.solutions.items }
+names_in task = record { first = name_of task.problem; others = map name_of task.others.items }
 
 -- what a task did, and the status that comes of its answer
 pub record Finishes {F S : Type 0} (left : ReaderOf F S → Option (List ℕ)) (task : Task F S) (out : Change SinkState) (status : ℕ) : Type 0 where
   pub answer : Result Outcome RunError
-  pub did : Did task.order.work task.order.mode (names_in task) (left task.problem) (map left task.solutions.items) out answer
+  pub did : Did task.order.job task.order.mode (names_in task) (left task.problem) (map left task.others.items) out answer
   pub status_is : status ≡ answer_status answer
 
 -- ---- the program
@@ -109,11 +87,11 @@ pub record Fails (P : Failure → Type 0) (out : Change SinkState) (status : ℕ
 -- the order was carried out on its files, of which as much is known as is said of them by name
 pub record IsDone (opens : Opens) (standard : Option (Option (List ℕ))) (order : Order) (out : Change SinkState) (status : ℕ) : Type 0 where
   pub problem : Option (List ℕ)
-  pub solutions : List (Option (List ℕ))
+  pub others : List (Option (List ℕ))
   pub problem_is : IsHeldBy opens standard order.problem problem
-  pub solutions_are : AllZip (IsHeldBy opens standard) order.solutions.items solutions
+  pub others_are : AllZip (IsHeldBy opens standard) order.others.items others
   pub answer : Result Outcome RunError
-  pub did : Did order.work order.mode (labels order) problem solutions out answer
+  pub did : Did order.job order.mode (labels order) problem others out answer
   pub status_is : status ≡ answer_status answer
 
 -- it was carried out, or its files can't be opened

@@ -1,19 +1,18 @@
 //! The program `cudf_check`: from its words to what it prints and its exit status.
 #![tactic(auto)]
 
-ghost use Rattle.std.specs.Prelude.{◌≡◌, ◌≢◌, ◌≤◌, ◌⊎◌, ◌∷◌, [], Ok, Err, IfOk, IfErr, MatchResult, count_by, is_some, length, map, option_map, string_bytes, true};
+ghost use Rattle.std.specs.Prelude.{◌≡◌, ◌≢◌, ◌≤◌, ◌⊎◌, Ok, Err, IfOk, IfErr, MatchResult, count_by, is_some, length, map, option_map, string_bytes, true};
 ghost use Rattle.std.specs.List.{AllZip};
 ghost use Rattle.std.specs.Option.{option_to_list};
 ghost use Rattle.std.specs.IoError.{error_kind};
 ghost use Rattle.std.specs.Vec.Iter.{into_iter_items};
 ghost use Rattle.std.specs.declared.io.ErrorKind.TheVariants.{OutOfMemory};
 ghost use Rattle.cudf_device.specs.Promises.NamedInside.{name_of};
-ghost use Rattle.cudf_device.specs.Readers.{change, changes};
-ghost use Rattle.cudf_check.specs.Runs.{job_report, read_for, Runs};
+ghost use Rattle.cudf_device.specs.Readers.{change};
 ghost use Rattle.cudf_command_line.specs.Command.{is_standard};
 ghost use Rattle.cudf_program.specs.Failure.{IsStatusOf, Prints, failure_status};
 ghost use Rattle.cudf_program.specs.Inputs.{IsClosed, IsFirstUnopened, IsGivenFor, IsOfFiles, IsOpenedAs, IsThere, IsUnopened, KeepsGiven, label, left_behind, left_of};
-ghost use Rattle.cudf_program.specs.Program.{Finishes, Follows, IsTried, Responds, labels, names_in, read_by, work_report};
+ghost use Rattle.cudf_program.specs.Program.{Finishes, Follows, IsTried, Responds, labels, names_in};
 ghost use Rattle.cudf_program.specs.declared.failure.Failure.TheVariants as reason;
 
 mod failure;
@@ -22,14 +21,13 @@ mod output;
 mod stop;
 mod system;
 
-use cudf_check::{Device, Job, Mode, Named, Outcome, RunError, Sink, Source, rank, run};
-use cudf_command_line::{FileName, Order, Usage, Work, command};
+use cudf_check::{Device, Named, RunError, Sink, run};
+use cudf_command_line::{FileName, Order, Usage, command};
 use failure::Failure;
 use file::{Input, open};
 use output::{Output, write_all};
 use std::alloc::{AllocError, Global};
 use std::env;
-use std::fs::File;
 use std::io::{self, Read, Write};
 use std::process::ExitCode;
 use stop::{Stop, tell_outcome};
@@ -103,7 +101,7 @@ fn obey<R: System + AllocGlobal, I: Read, W: Sink, E: Write>(
     }
 }
 
-/// Opens the files of an order, and does its work on them.
+/// Opens the files of an order, and runs its job on them.
 fn carry_out<R: System + AllocGlobal, S: Read + Drop, W: Sink, E: Write>(
     rt: &R,
     order: Order<'_>,
@@ -128,10 +126,10 @@ pub(crate) type Reader<'w, F, S> = Named<'w, Device<Input<F, S>>>;
 struct Task<'w, F, S> {
     order: Order<'w>,
     problem: Reader<'w, F, S>,
-    solutions: Vec<Reader<'w, F, S>>,
+    others: Vec<Reader<'w, F, S>>,
 }
 
-/// Opens the files of an order, that of the problem first, and then those of the solutions in order. Nothing is opened
+/// Opens the files of an order, that of the problem first, and then the others in order. Nothing is opened
 /// before standard input, where it is one of the files, is tried; nothing is read before all files are open.
 #[tactic(auto, using(crate::proofs::FileLemmas::held_before))]
 fn open_files<'w, R: System + AllocGlobal, S: Read + Drop>(
@@ -143,8 +141,8 @@ fn open_files<'w, R: System + AllocGlobal, S: Read + Drop>(
     ensures order { IfOk result (λ task. task.order ≡ order.entry) }
     ensures problem { IfOk result (λ task. IsOpenedAs (R.opens rt.now) (option_map S.remaining standard) (left_of R.File.remaining S.remaining)
         order.entry.problem task.problem) }
-    ensures solutions { IfOk result (λ task. AllZip (IsOpenedAs (R.opens rt.now) (option_map S.remaining standard) (left_of R.File.remaining S.remaining))
-        order.entry.solutions.items task.solutions.items) }
+    ensures others { IfOk result (λ task. AllZip (IsOpenedAs (R.opens rt.now) (option_map S.remaining standard) (left_of R.File.remaining S.remaining))
+        order.entry.others.items task.others.items) }
     ensures named { IfOk result (λ task. names_in task ≡ labels order.entry) }
     ensures failed { IfErr result (IsOfFiles (R.opens rt.now) order.entry) }
 {
@@ -152,11 +150,11 @@ fn open_files<'w, R: System + AllocGlobal, S: Read + Drop>(
     expect_open(&mut standard)?;
     let names_files = order.names_files;
     let problem = open_named(rt, names_files, order.problem, &mut standard)?;
-    let solutions = open_each(rt, names_files, &order.solutions, &mut standard)?;
+    let others = open_each(rt, names_files, &order.others, &mut standard)?;
     Ok(Task {
         order,
         problem,
-        solutions,
+        others,
     })
 }
 
@@ -228,7 +226,7 @@ fn label(names_files: bool, name: FileName<'_>) -> Option<&str>
     }
 }
 
-/// Does the work, and answers its exit status. Where it was broken off, it says why.
+/// Runs the job, and answers its exit status. Where it was broken off, it says why.
 fn finish<F: Read + Drop, S: Read + Drop, W: Sink, E: Write>(
     alloc: Global,
     task: Task<'_, F, S>,
@@ -240,54 +238,26 @@ fn finish<F: Read + Drop, S: Read + Drop, W: Sink, E: Write>(
     let Task {
         order,
         mut problem,
-        mut solutions,
+        mut others,
     } = task;
-    match perform(alloc, &order, &mut problem, &mut solutions, out) {
+    match run(
+        alloc,
+        &order.job,
+        order.mode,
+        &mut problem,
+        &mut others,
+        out,
+    ) {
         Ok(outcome) => {
             let _told = tell_outcome(outcome, order.problem, errors);
             outcome.status()
         }
         Err(error) => {
-            let stop = Stop::of((order.problem, problem), &order.solutions, solutions);
+            let stop = Stop::of((order.problem, problem), &order.others, others);
             let _told = stop.tell(error, errors);
             error.status()
         }
     }
-}
-
-/// Does the work of an order on open files: a run is on the first of the solutions, where there is one.
-fn perform<D: Source, W: Sink>(
-    alloc: Global,
-    order: &Order<'_>,
-    problem: &mut D,
-    solutions: &mut [D],
-    out: &mut W,
-) -> Result<Outcome, RunError>
-    ensures { Runs (work_report order.now.work order.now.mode) (change D.state problem.old problem.new)
-        (read_by order.now.work (changes D.state solutions.old solutions.new)) (change W.state out.old out.new) result }
-{
-    match &order.work {
-        Work::Rank(aims) => rank(alloc, aims, order.mode, problem, solutions, out),
-        Work::Run(job) => match solutions.first_mut() {
-            Some(solution) => run_on(alloc, job, order.mode, problem, solution, out),
-            None => run::<_, Device<File>, _>(alloc, job, order.mode, problem, None, out),
-        },
-    }
-}
-
-/// A run on a problem and a solution.
-fn run_on<D: Source, W: Sink>(
-    alloc: Global,
-    job: &Job,
-    mode: Mode,
-    problem: &mut D,
-    solution: &mut D,
-    out: &mut W,
-) -> Result<Outcome, RunError>
-    ensures { Runs (job_report job.now mode) (change D.state problem.old problem.new)
-        (read_for job.now (change D.state solution.old solution.new ∷ [])) (change W.state out.old out.new) result }
-{
-    run(alloc, job, mode, problem, Some(solution), out)
 }
 
 /// Prints help or the version, or says what went wrong, and answers the exit status. Help that can't be printed is a

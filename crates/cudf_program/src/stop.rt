@@ -19,14 +19,14 @@ impl<'w> Stop<'w> {
     pub(crate) fn of<F: Drop, S: Drop>(
         problem: (FileName<'w>, Reader<'_, F, S>),
         names: &[FileName<'w>],
-        solutions: Vec<Reader<'_, F, S>>,
+        others: Vec<Reader<'_, F, S>>,
     ) -> Stop<'w> {
         let (name, reader) = problem;
         let mut last = Stop {
             name,
             reading: reader.into_inner().into_inner().reading(),
         };
-        for (name, reader) in names.iter().zip(solutions) {
+        for (name, reader) in names.iter().zip(others) {
             let reading = reader.into_inner().into_inner().reading();
             if !matches!(reading, Reading::Unread) {
                 last = Stop {
@@ -80,7 +80,7 @@ pub(crate) fn tell_outcome<E: Write>(
     match outcome {
         Outcome::TooLarge => writeln!(
             errors,
-            "cudf_check: the CNF of {problem} would have more than 4294967295 clauses"
+            "cudf_check: the CNF of {problem} would have more than 4294967295 clauses or 2147483647 variables"
         ),
         Outcome::Yes | Outcome::No | Outcome::Faulty | Outcome::Fail => Ok(()),
     }

@@ -148,7 +148,7 @@ const RANGES: [Range; 36] = [
 ];
 
 fn is_reported(alloc: Global, front: &[u8], range: &Range) -> Answer {
-    let (outcome, report) = report(alloc, &CHECK, front, None)?;
+    let (outcome, report) = report(alloc, &CHECK, front)?;
     Ok(outcome == range.2 && report.as_slice() == range.1)
 }
 

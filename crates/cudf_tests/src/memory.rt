@@ -106,7 +106,7 @@ const FAULTS: [(&[u8], &[u8]); 3] = [
 /// Whether a run that explains its lines tells this of the problem.
 fn tells(alloc: Global, problem: &[u8], want: &[u8]) -> Answer {
     let job = Job::Lint { explain: true };
-    let (outcome, report) = report(alloc, &job, problem, None)?;
+    let (outcome, report) = report(alloc, &job, problem)?;
     Ok(outcome == Outcome::Faulty && report.as_slice() == want)
 }
 

@@ -1,6 +1,6 @@
 //! A ranking of many solutions, longer than what waits before it is written.
 use crate::table::{Answer, expect};
-use cudf_check::{Aim, Device, Mode, Outcome, rank};
+use cudf_check::{Device, Job, Mode, Outcome, run};
 use cudf_referee::read_criterion;
 use std::alloc::{AllocError, Global};
 use std::ops::Range;
@@ -66,27 +66,20 @@ fn is_ranked(alloc: Global) -> Answer {
 
 fn is_ranked_so(alloc: Global, report: &[u8]) -> Answer {
     match read_criterion(alloc, AIMS)? {
-        Some(aims) => is_ranked_by(alloc, &aims, report),
+        Some(aims) => is_ranked_by(alloc, &Job::Rank { aims }, report),
         None => Ok(false),
     }
 }
 
-fn is_ranked_by(alloc: Global, aims: &[Aim], report: &[u8]) -> Answer {
+fn is_ranked_by(alloc: Global, job: &Job, report: &[u8]) -> Answer {
     let mut solutions = solutions(alloc)?;
-    ranks(alloc, aims, &mut solutions, report)
+    ranks(alloc, job, &mut solutions, report)
 }
 
-fn ranks(alloc: Global, aims: &[Aim], solutions: &mut [Device<&[u8]>], report: &[u8]) -> Answer {
+fn ranks(alloc: Global, job: &Job, solutions: &mut [Device<&[u8]>], report: &[u8]) -> Answer {
     let mut problem = Device::new(FLEET);
     let mut out = Device::new(Vec::new(alloc));
-    let outcome = rank(
-        alloc,
-        aims,
-        Mode::Lenient,
-        &mut problem,
-        solutions,
-        &mut out,
-    )?;
+    let outcome = run(alloc, job, Mode::Lenient, &mut problem, solutions, &mut out)?;
     Ok(outcome == Outcome::Yes && out.into_inner().as_slice() == report)
 }
 

@@ -23,15 +23,11 @@ pub(crate) const CHECK: Job = Job::Check {
 pub(crate) const JOINED: &[u8] =
     b"package: car\nversion: 1\ndepends: wheel > 2\ninstalled: true\n\npackage: wheel\nversion: 2\ninstalled: true\n\nrequest: r\n\npackage: car\nversion: 1\ninstalled: true\n";
 
-/// How the job ends, and what it writes.
-pub(crate) fn report(
-    alloc: Global,
-    job: &Job,
-    problem: &[u8],
-    solution: Option<&mut Device<&[u8]>>,
-) -> Result<(Outcome, Vec<u8>), Ended> {
-    let mut problem = Device::new(problem);
+/// How the job on this input ends, and what it writes.
+pub(crate) fn report(alloc: Global, job: &Job, input: &[u8]) -> Result<(Outcome, Vec<u8>), Ended> {
+    let mut input = Device::new(input);
+    let mut others: [Device<&[u8]>; 0] = [];
     let mut out = Device::new(Vec::new(alloc));
-    let outcome = run(alloc, job, Mode::Lenient, &mut problem, solution, &mut out)?;
+    let outcome = run(alloc, job, Mode::Lenient, &mut input, &mut others, &mut out)?;
     Ok((outcome, out.into_inner()))
 }

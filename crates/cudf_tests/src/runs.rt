@@ -1,7 +1,7 @@
 //! Runs on devices that fail, and on inputs at the limits.
 use crate::devices::{FOREVER, Giver, Refusal, Taker};
 use crate::reports::{CHECK, JOINED};
-use cudf_check::{Job, Mode, Outcome, RunError, run};
+use cudf_check::{Mode, Outcome, RunError, run};
 use std::alloc::Global;
 
 /// The last turn of a reader, and the most bytes that it may give.
@@ -11,15 +11,10 @@ const BYTES: usize = 268435456;
 
 const REPORT: &[u8] = b"p1.depends.1 car 1 line 1: needs wheel > 2\nsolution no\n";
 
-/// How a run on these devices ends.
-fn ended(
-    alloc: Global,
-    job: &Job,
-    input: &mut Giver<'_>,
-    solution: Option<&mut Giver<'_>>,
-    out: &mut Taker,
-) -> Result<Outcome, RunError> {
-    run(alloc, job, Mode::Lenient, input, solution, out)
+/// How a check on these devices ends.
+fn ended(alloc: Global, input: &mut Giver<'_>, out: &mut Taker) -> Result<Outcome, RunError> {
+    let mut others: [Giver<'_>; 0] = [];
+    run(alloc, &CHECK, Mode::Lenient, input, &mut others, out)
 }
 
 /// A sink that takes everything.
@@ -35,7 +30,7 @@ fn answers(
     report: &[u8],
 ) -> bool {
     let mut out = endless(alloc);
-    ended(alloc, &CHECK, input, None, &mut out) == want && out.taken.as_slice() == report
+    ended(alloc, input, &mut out) == want && out.taken.as_slice() == report
 }
 
 /// The most bytes of a read, whether each is given after an interrupted call, and the call that reaches the end.
@@ -69,22 +64,6 @@ fn reads(rt: HostRuntime) {
             );
         }
     }
-}
-
-/// Whether a run to lint ends well.
-fn lints(alloc: Global, solution: &mut Giver<'_>) -> bool {
-    let mut input = Giver::new(b"request: r\n");
-    let mut out = endless(alloc);
-    let job = Job::Lint { explain: false };
-    ended(alloc, &job, &mut input, Some(solution), &mut out) == Ok(Outcome::Yes)
-}
-
-/// A run to lint reads no solution.
-#[test]
-fn lints_beside_a_solution(rt: HostRuntime) {
-    let mut solution = Giver::new(JOINED);
-    assert!(rt; lints(rt.alloc(), &mut solution), "lint");
-    assert!(rt; solution.turn == 0, "{} turns", solution.turn);
 }
 
 /// An input that begins so and repeats its last byte, its length, how many calls are interrupted first, how the run ends,
@@ -166,7 +145,7 @@ fn leaves_prefix(alloc: Global, row: &(usize, Refusal), room: usize) -> bool {
 }
 
 fn writes_to(alloc: Global, out: &mut Taker) -> Result<Outcome, RunError> {
-    ended(alloc, &CHECK, &mut Giver::new(JOINED), None, out)
+    ended(alloc, &mut Giver::new(JOINED), out)
 }
 
 #[test]

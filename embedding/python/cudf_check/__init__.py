@@ -10,8 +10,10 @@ buffer isn't copied unless it is read-only and not `bytes`; it must not change d
 
 Errors of documents are reported. An exception means that there is no report:
 
-- `ValueError`: the key, the limit or the list of criteria is invalid. The text is the first line of the program's.
-- `TooLong`, a `ValueError`: a document is longer than 256 MiB, or the CNF has more than 4294967295 clauses.
+- `ValueError`: the key, the limit or the list of criteria is invalid, or what is asked for doesn't go together. The text
+  is the first line of the program's.
+- `TooLong`, a `ValueError`: a document is longer than 256 MiB, or the CNF has more than 4294967295 clauses or
+  2147483647 variables.
 - `MemoryError`: out of memory.
 - `UnicodeEncodeError`, a `ValueError`: a `str` can't be encoded.
 - `OSError`: a file can't be read. `TypeError`: not a document.
@@ -38,7 +40,7 @@ Document = Union[str, bytes, bytearray, memoryview, mmap.mmap, "os.PathLike[str]
 
 
 class TooLong(ValueError):
-    """A document is longer than 256 MiB, or a CNF has more than 4294967295 clauses."""
+    """A document is longer than 256 MiB, or a CNF has more than 4294967295 clauses or 2147483647 variables."""
 
 
 class Status(enum.IntEnum):
@@ -138,22 +140,30 @@ class Ranked:
 
 @dataclass(frozen=True)
 class Encoded:
-    """The report is a CNF in DIMACS, or has the problem's error."""
+    """The report is a CNF in DIMACS, or has the first error.
+
+    `verdict` is `no` or `FAIL` if the answer that is to be bettered is no solution.
+    """
 
     status: Status
     report: str
     fault: Optional[Fault]
+    verdict: Optional[str] = None
 
     @property
     def packages(self) -> List[Tuple[str, int]]:
-        """The name and version of each package; variable 1 means that the first one is installed."""
+        """The name and version of each package; variable 1 means that the first one is installed.
+
+        Variables beyond the packages only serve the clauses of a CNF for better solutions.
+        """
         told = [line.split(" ") for line in _lines(self.report) if line.startswith(_PACKAGE)]
         return [(name, int(number)) for _, _, name, number in told]
 
     @property
     def clauses(self) -> List[Tuple[int, ...]]:
         """The literals of each clause: a negative number means that the package isn't installed."""
-        told = [] if self.fault else [line for line in _lines(self.report) if not line.startswith((_PACKAGE, _HEADER))]
+        lines = [] if self.fault or self.verdict else _lines(self.report)
+        told = [line for line in lines if not line.startswith((_PACKAGE, _HEADER))]
         return [tuple(map(int, line.split(" ")[:-1])) for line in told]
 
 
@@ -169,13 +179,19 @@ class ProofFault:
 
 @dataclass(frozen=True)
 class Refuted:
-    """`fault` is the problem's, `proof_fault` the proof's. Every answer violates one of the `reasons`."""
+    """`fault` is that of the problem or of the answer that is to be bettered, `proof_fault` the proof's.
+
+    Every answer violates one of the `reasons`. Of the answer that can't be bettered there are `counts` by aim; `verdict` is
+    `no` or `FAIL` if it is no solution.
+    """
 
     status: Status
     report: str
     fault: Optional[Fault]
     proof_fault: Optional[ProofFault]
     reasons: List[Violation]
+    counts: Tuple[Tuple[str, int], ...] = ()
+    verdict: Optional[str] = None
 
 
 # ---- the calls
@@ -183,7 +199,8 @@ class Refuted:
 
 def run(words: Iterable[str], documents: Iterable[Document] = (), names: Iterable[str] = ()) -> Tuple[int, str]:
     """What the program does for these words, such as `["check", "--explain"]`, with the documents in place of its files:
-    its exit status, and its report, or with status 4 its message. Lines begin with the documents' names if `-H` is given."""
+    its exit status, and its report, or with status 4 its message. The last document stands for the file of
+    `--better-than=NAME`, if that is one of the words. Lines begin with the documents' names if `-H` is given."""
     line = [(word, len(word)) for word in (str(it).encode() for it in words)]
     held = [_sized(document) for document in documents]
     texts = [(it if isinstance(it, bytes) else ctypes.addressof(it), length) for it, length in held]
@@ -232,17 +249,32 @@ def rank(problem: Document, solutions: Iterable[Document], criteria: str, strict
     return Ranked(status, report, fault, [] if fault else [_rank(line) for line in _lines(report)])
 
 
-def cnf(problem: Document, strict: bool = False) -> Encoded:
-    """The rules of a problem as a CNF, for a SAT solver."""
-    status, report = _asked(["cnf"], [problem], strict)
-    return Encoded(status, report, _fault(report))
+def cnf(
+    problem: Document, strict: bool = False, better_than: Optional[Document] = None, criteria: Optional[str] = None,
+) -> Encoded:
+    """The rules of a problem as a CNF, for a SAT solver: its models are the solutions.
+
+    With an answer and a list of criteria they are the solutions that are better than that answer by the list.
+    """
+    words, answers = _bettered(better_than, criteria)
+    status, report = _asked(["cnf", *words], [problem, *answers], strict)
+    return Encoded(status, report, _fault(report), _verdict(report))
 
 
-def refute(problem: Document, proof: Document, strict: bool = False, explain: bool = False) -> Refuted:
-    """Whether a proof, in LRAT's text form, shows that a problem has no solution, and why it has none."""
-    status, report = _asked(["refute"], [problem, proof], strict, explain)
-    reasons = [_violation(line) for line in _lines(report)[:-1]] if status == Status.YES else []
-    return Refuted(status, report, _fault(report), _proof_fault(report), reasons)
+def refute(
+    problem: Document, proof: Document, strict: bool = False, explain: bool = False,
+    better_than: Optional[Document] = None, criteria: Optional[str] = None,
+) -> Refuted:
+    """Whether a proof, in LRAT's text form, shows that a problem has no solution, and why it has none.
+
+    With an answer and a list of criteria: whether it shows that no solution is better than that answer by the list.
+    """
+    words, answers = _bettered(better_than, criteria)
+    status, report = _asked(["refute", *words], [problem, proof, *answers], strict, explain)
+    lines = _lines(report)[:-1] if status == Status.YES else []
+    reasons = [] if answers else [_violation(line) for line in lines]
+    counts = _counts(" ".join(lines)) if answers else ()
+    return Refuted(status, report, _fault(report), _proof_fault(report), reasons, counts, _verdict(report))
 
 
 def version() -> str:
@@ -295,11 +327,19 @@ def _violation(line: str) -> Violation:
     return Violation(key, part, rule, int(place), aspect, name, told, int(number), text, added)
 
 
+def _verdict(report: str) -> Optional[str]:
+    """What a report says of an answer that is no solution, where that is all that it says."""
+    return {_VERDICT + verdict + "\n": verdict for verdict in ("no", "FAIL")}.get(report)
+
+
+def _counts(told: str) -> Tuple[Tuple[str, int], ...]:
+    words = told.split()
+    return tuple((aim, int(count)) for aim, count in zip(words[::2], words[1::2]))
+
+
 def _rank(line: str) -> Rank:
     at, place, verdict, told = _matched(_RANK_LINE, line).groups()
-    words = told.split()
-    counts = tuple((aim, int(count)) for aim, count in zip(words[::2], words[1::2]))
-    return Rank(int(at), int(place), verdict, counts)
+    return Rank(int(at), int(place), verdict, _counts(told))
 
 
 # ---- the library
@@ -351,6 +391,12 @@ def _sized(document: Document) -> Tuple[Union[bytes, ctypes.Array], int]:
     return text, view.nbytes
 
 
+def _bettered(better_than: Optional[Document], criteria: Optional[str]) -> Tuple[List[str], List[Document]]:
+    """The words for solutions that are better than an answer, and the documents behind those of the command."""
+    words = [] if criteria is None else [f"--criteria={criteria}"]
+    return (words, []) if better_than is None else (["--better-than=answer", *words], [better_than])
+
+
 def _call(*arguments) -> Tuple[int, str]:
     """Makes a call with a buffer for its report, and again with a larger one if that was too small."""
     room, length = _ROOM, ctypes.c_size_t()
@@ -371,7 +417,9 @@ def _asked(words: List[str], documents: List[Document], strict: bool, explain: b
     if code == _USAGE:
         raise ValueError(text.split("\n\nUsage: ")[0][len("error: "):])
     if code == _UNREAD:
-        raise TooLong(f"a document is longer than {_LONGEST} bytes, or a CNF has more than 4294967295 clauses")
+        raise TooLong(
+            f"a document is longer than {_LONGEST} bytes, or a CNF has more than 4294967295 clauses or 2147483647 variables"
+        )
     if code == _MEMORY:
         raise MemoryError("there is not enough memory")
     for document in documents if code == Status.FAULTY else ():

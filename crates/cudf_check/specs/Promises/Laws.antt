@@ -35,5 +35,5 @@ AddsToReasons = (bytes proof : List ℕ) (problem : PlainProblem) (reason : Plai
 
 -- and those of a proof's fault
 abbrev pub AddsToProofs : Type 0
-AddsToProofs = (bytes proof : List ℕ) (problem : PlainProblem) (number : ℕ) (kind : Kind)
-    → AddsAfter (proof_report (refutation_style false bytes proof) problem (lrat.faulty number kind)).text (proof_report (refutation_style true bytes proof) problem (lrat.faulty number kind)).text
+AddsToProofs = (bytes proof : List ℕ) (clauses : ℕ) (found : List ℕ → List ℕ) (number : ℕ) (kind : Kind)
+    → AddsAfter (proof_report (refutation_style false bytes proof) clauses found (lrat.faulty number kind)).text (proof_report (refutation_style true bytes proof) clauses found (lrat.faulty number kind)).text

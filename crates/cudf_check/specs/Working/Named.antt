@@ -5,6 +5,8 @@ use Rattle.cudf_check.specs.Explanations.{listed_text, instance_added, detail_ad
 use Rattle.cudf_check.specs.JobStyles.{document_style, named_style, pair_style, refutation_style}
 use Rattle.cudf_check.specs.Naming.{Names, PlainOrigin, PlainOrigins}
 use Rattle.cudf_check.specs.Styles.{Style}
+use Rattle.cudf_device.specs.Device.{SourceState}
+use Rattle.cudf_device.specs.Readers.{names_in}
 use Rattle.cudf_check.specs.declared.naming.Given.{Given}
 use Rattle.cudf_check.specs.declared.naming.Origin.{Origin}
 use Rattle.cudf_check.specs.declared.naming.Origins.{Origins}
@@ -24,6 +26,9 @@ other_names (Some given) = option_map (λ n. n.now) given.name ∷ []
 
 abbrev pub given_names : Given → Option Given → Names
 given_names first second = record { first = option_map (λ n. n.now) first.name; others = other_names second }
+
+abbrev pub names_given : {S : Type 0} → (S → SourceState) → Given → List S → Names
+names_given state first others = record { first = option_map (λ n. n.now) first.name; others = names_in state others }
 
 -- ---- styles
 

@@ -2,14 +2,13 @@
 ghost use Rattle.std.specs.Prelude.{map};
 ghost use Rattle.std.specs.List.{flat_map, enumerate_from};
 ghost use Rattle.cudf_problem.specs.Promises.Views.{package_view};
-ghost use Rattle.cudf_cnf.specs.Cnf.{clauses_of};
-ghost use Rattle.cudf_check.specs.Report.{clause_line, cnf_answer, header_line, literal_text, package_comment};
+ghost use Rattle.cudf_check.specs.Report.{clause_line, cnf_answer, dimacs, header_line, literal_text, package_comment};
 ghost use Rattle.cudf_device.specs.Promises.PaperInside.{Prints, Says};
 
-use cudf_cnf::{KeyedClauses, encoded};
+use cudf_cnf::encoded;
 use cudf_device::{Outcome, Paper, Sink};
 use cudf_document::{Package, Problem};
-use cudf_lrat::Literal;
+use cudf_lrat::{Cnf, Literal};
 use std::alloc::{AllocError, Global};
 
 /// Prints the comment for a package at a place.
@@ -35,11 +34,11 @@ fn print_packages<W: Sink>(paper: &mut Paper<'_, W>, packages: &[Package<'_>])
 }
 
 /// Prints how many variables and clauses there are.
-fn print_header<W: Sink>(paper: &mut Paper<'_, W>, places: u64, clauses: u64)
-    ensures { Says W.state paper.old paper.new (header_line places clauses) }
+fn print_header<W: Sink>(paper: &mut Paper<'_, W>, variables: u64, clauses: u64)
+    ensures { Says W.state paper.old paper.new (header_line variables clauses) }
 {
     paper.text("p cnf ");
-    paper.number(places);
+    paper.number(variables);
     paper.text(" ");
     paper.number(clauses);
     paper.text("\n");
@@ -73,12 +72,21 @@ fn print_clause<W: Sink>(paper: &mut Paper<'_, W>, literals: &[Literal])
 }
 
 /// Prints a line for each clause.
-fn print_clauses<W: Sink>(paper: &mut Paper<'_, W>, clauses: &KeyedClauses)
-    ensures { Says W.state paper.old paper.new (flat_map clause_line (clauses_of clauses.now.clauses)) }
+fn print_clauses<W: Sink>(paper: &mut Paper<'_, W>, cnf: &Cnf)
+    ensures { Says W.state paper.old paper.new (flat_map clause_line cnf.now.clauses) }
 {
-    for index in 0..clauses.len() {
-        print_clause(paper, clauses.clause(index));
+    for index in 0..cnf.len() {
+        print_clause(paper, cnf.clause(index + 1));
     }
+}
+
+/// Prints clauses, whose first variables are these packages.
+pub(crate) fn print_dimacs<W: Sink>(paper: &mut Paper<'_, W>, packages: &[Package<'_>], cnf: &Cnf)
+    ensures { Says W.state paper.old paper.new (dimacs (map package_view packages.now) cnf.now) }
+{
+    print_packages(paper, packages);
+    print_header(paper, u64::from(cnf.variables()), u64::from(cnf.len()));
+    print_clauses(paper, cnf);
 }
 
 /// Prints the CNF of a problem, unless it is too large.
@@ -91,10 +99,7 @@ pub(crate) fn print_cnf<W: Sink>(
 {
     match encoded(alloc, problem) {
         Ok(Some(clauses)) => {
-            let packages = problem.packages();
-            print_packages(paper, packages);
-            print_header(paper, packages.len() as u64, clauses.len() as u64);
-            print_clauses(paper, &clauses);
+            print_dimacs(paper, problem.packages(), clauses.cnf());
             Ok(Outcome::Yes)
         }
         Ok(None) => Ok(Outcome::TooLarge),

@@ -63,13 +63,13 @@ fn print_found<W: Sink>(paper: &mut Paper<'_, W>, scribe: &Scribe<'_, '_, '_>, j
 {
     let referee = scribe.referee();
     match job {
-        Job::Lint { .. } | Job::Cnf | Job::Refute { .. } => {}
         // A solution's listing is empty, so no place is judged again for a page of it.
         Job::Check { .. } if referee.is_solution() => {}
         Job::Check { after, limit, .. } => {
             let _walk = print_page(paper, scribe, *after, *limit);
         }
         Job::Score { aims } => print_counted(paper, referee, aims),
+        _ => {}
     }
 }
 

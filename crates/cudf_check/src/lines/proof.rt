@@ -2,21 +2,20 @@
 ghost use Rattle.std.specs.Prelude.{◌≡◌, ◌++◌, IfOk, codes, decimal, length, option_map};
 ghost use Rattle.cudf_lrat.specs.Kinds.{kind_text};
 ghost use Rattle.cudf_lrat.specs.Details.{detail_view};
-ghost use Rattle.cudf_device.specs.declared.outcome.Outcome.TheVariants.{No};
-ghost use Rattle.cudf_device.specs.Promises.PaperInside.{Prints, Says};
+ghost use Rattle.cudf_device.specs.Promises.PaperInside.{Says};
 ghost use Rattle.cudf_check.specs.ProofDetails.{detail_text, proof_added, text_added};
-ghost use Rattle.cudf_check.specs.Report.{alone, line};
+ghost use Rattle.cudf_check.specs.Report.{line};
 ghost use Rattle.cudf_check.specs.Working.Said.{said_text};
 
 use crate::lines::detail::{format_text, print_line_text};
-use cudf_device::{Outcome, Paper, Sink};
+use cudf_device::{Paper, Sink};
 use cudf_document::{Format, format_of};
 use cudf_lrat::{Cnf, Detail, Kind, fault_detail};
 use std::alloc::{AllocError, Global};
 
 /// What is said beside a proof's first fault.
 #[derive(Clone, Copy)]
-enum Said<'p> {
+pub(crate) enum Said<'p> {
     /// The format of which a file begins as the proof does.
     OfFormat(Format),
     OfLine(Detail<'p>),
@@ -24,7 +23,7 @@ enum Said<'p> {
 
 /// What is said beside the fault of this kind on a line of a proof, where lines are explained.
 #[tactic(auto, unfolding(crate::specs::ProofDetails::proof_explained))]
-fn said_of<'p>(
+pub(crate) fn said_of<'p>(
     alloc: Global,
     cnf: &Cnf,
     proof: &'p [u8],
@@ -88,7 +87,7 @@ fn print_added<W: Sink>(paper: &mut Paper<'_, W>, said: Option<Said<'_>>)
 }
 
 /// Prints the line of a proof's first fault, with what is said beside it.
-fn print_step_fault<W: Sink>(
+pub(crate) fn print_step_fault<W: Sink>(
     paper: &mut Paper<'_, W>,
     number: u64,
     kind: Kind,
@@ -102,22 +101,4 @@ fn print_step_fault<W: Sink>(
     paper.text(kind.text());
     print_added(paper, said);
     paper.text("\n");
-}
-
-/// Reports the first fault of a proof, which is of this kind and on this line of it.
-pub(crate) fn print_faulty_proof<W: Sink>(
-    paper: &mut Paper<'_, W>,
-    alloc: Global,
-    cnf: &Cnf,
-    proof: &[u8],
-    number: u64,
-    kind: Kind,
-    explain: bool,
-) -> Result<Outcome, AllocError>
-    ensures { Prints W.state paper.old paper.new
-        (alone (codes "proof line " ++ decimal number ++ codes ": " ++ kind_text kind ++ proof_added explain proof.now (length cnf.now.clauses) number kind) No) result }
-{
-    let said = said_of(alloc, cnf, proof, number, kind, explain)?;
-    print_step_fault(paper, number, kind, said);
-    Ok(Outcome::No)
 }

@@ -16,7 +16,7 @@ ghost use Rattle.cudf_check.specs.Working.Named.{proof_style, reason_style};
 
 use crate::lines::explanation::print_help_alone;
 use crate::lines::instance::{package_at, print_instance, print_meeting};
-use crate::lines::proof::print_faulty_proof;
+use crate::lines::proof::{print_step_fault, said_of};
 use cudf_cnf::laws::ordered;
 use cudf_cnf::{KeyedClauses, encoded};
 use cudf_device::{Outcome, Paper, Sink};
@@ -262,7 +262,9 @@ fn print_checked<W: Sink>(
     let cnf = clauses.cnf();
     match check(alloc, cnf, proof) {
         Ok(Answer::Faulty { line, kind }) => {
-            print_faulty_proof(paper, alloc, cnf, proof, line, kind, explain)
+            let said = said_of(alloc, cnf, proof, line, kind, explain)?;
+            print_step_fault(paper, line, kind, said);
+            Ok(Outcome::No)
         }
         Ok(Answer::Refuted(numbers)) => print_core(
             paper, alloc, problem, clauses, &numbers, explain,

@@ -8,7 +8,7 @@ pub returns-in-Ok : goal.returns-in-Ok
 returns-in-Ok g c =
     inl (done (g.R.System.opens c.args.rt.now) (option_map g.S.Read.remaining c.args.standard) (left_of g.R.File.Read.remaining g.S.Read.remaining) c.args.order c.in-Ok.task
     (change g.W.Sink.state c.args.out.now c.finish.new.out) c.finish.result
-    c.in-Ok.ensures.order c.in-Ok.ensures.problem c.in-Ok.ensures.solutions c.in-Ok.ensures.named c.finish.ensures)
+    c.in-Ok.ensures.order c.in-Ok.ensures.problem c.in-Ok.ensures.others c.in-Ok.ensures.named c.finish.ensures)
 
 pub returns-in-Err : goal.returns-in-Err
 returns-in-Err g c =

@@ -12,12 +12,12 @@ pub returns-in-Ok : goal.returns-in-Ok
 returns-in-Ok g c =
     let left = left_of g.F.Read.remaining g.S.Read.remaining in
     let state = named_state (source_state (bytes_left g.F.Read.remaining g.S.Read.remaining)) in
-    let out = change g.W.Sink.state c.args.out.now c.perform.new.out in
+    let out = change g.W.Sink.state c.args.out.now c.run.new.out in
     let task = c.args.task in
     record {
-      answer = c.perform.result;
-      did = subst (λ readers. Did task.order.work task.order.mode (record { first = name_of task.problem; others = map name_of readers }) (left task.problem) (map left readers) out c.perform.result) c.deref_mut.ensures.value
-          (did state task.order.work task.order.mode (change state task.problem c.perform.new.problem) c.deref_mut.result.now c.perform.new.solutions out c.perform.result c.perform.auto.solutions c.perform.ensures);
+      answer = c.run.result;
+      did = subst (λ readers. Did task.order.job task.order.mode (record { first = name_of task.problem; others = map name_of readers }) (left task.problem) (map left readers) out c.run.result) c.deref_mut.ensures.value
+          (did state task.order.job task.order.mode (change state task.problem c.run.new.first) c.deref_mut.result.now c.run.new.others c.run.auto.others out c.run.result c.run.ensures.runs);
       status_is = c.status.ensures ∙ ap answer_status (sym c.in-Ok.is);
     }
 
@@ -25,11 +25,11 @@ pub returns : goal.returns
 returns g c =
     let left = left_of g.F.Read.remaining g.S.Read.remaining in
     let state = named_state (source_state (bytes_left g.F.Read.remaining g.S.Read.remaining)) in
-    let out = change g.W.Sink.state c.args.out.now c.perform.new.out in
+    let out = change g.W.Sink.state c.args.out.now c.run.new.out in
     let task = c.args.task in
     record {
-      answer = c.perform.result;
-      did = subst (λ readers. Did task.order.work task.order.mode (record { first = name_of task.problem; others = map name_of readers }) (left task.problem) (map left readers) out c.perform.result) c.deref_mut.ensures.value
-          (did state task.order.work task.order.mode (change state task.problem c.perform.new.problem) c.deref_mut.result.now c.perform.new.solutions out c.perform.result c.perform.auto.solutions c.perform.ensures);
+      answer = c.run.result;
+      did = subst (λ readers. Did task.order.job task.order.mode (record { first = name_of task.problem; others = map name_of readers }) (left task.problem) (map left readers) out c.run.result) c.deref_mut.ensures.value
+          (did state task.order.job task.order.mode (change state task.problem c.run.new.first) c.deref_mut.result.now c.run.new.others c.run.auto.others out c.run.result c.run.ensures.runs);
       status_is = c.status-in-Err.ensures ∙ ap answer_status (sym c.in-Err.is);
     }

@@ -1,8 +1,8 @@
 //! What runs on the documents of a row write, and how they end.
-use super::asked::{Asked, Task};
+use super::asked::Asked;
 use super::document::Documents;
 use super::pages::compare_pages;
-use cudf_check::{Device, Named, rank, run};
+use cudf_check::{Device, Named, run};
 use std::alloc::{AllocError, Global};
 
 /// The bytes of a long comment, more than eight times those of each solution.
@@ -74,18 +74,14 @@ pub(crate) fn answer_once(
     let mut input = Named::new(Device::new(problem), asked.names_files.then_some("P"));
     let mut proposed = sources(alloc, asked, solutions, &names)?;
     let mut out = Device::new(Vec::new(alloc));
-    let ended = match &asked.task {
-        Task::Run(job) => run(
-            alloc,
-            job,
-            asked.mode,
-            &mut input,
-            proposed.first_mut(),
-            &mut out,
-        ),
-        Task::Rank(aims) => rank(alloc, aims, asked.mode, &mut input, &mut proposed, &mut out),
-    };
-    let status = match ended {
+    let status = match run(
+        alloc,
+        &asked.job,
+        asked.mode,
+        &mut input,
+        &mut proposed,
+        &mut out,
+    ) {
         Ok(outcome) => outcome.status(),
         Err(error) => error.status(),
     };

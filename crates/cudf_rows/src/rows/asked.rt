@@ -4,17 +4,10 @@ use cudf_referee::read_criterion;
 use cudf_value::read_posint;
 use std::alloc::{AllocError, Global};
 
-/// What is done with the documents.
-#[derive(Drop)]
-pub(crate) enum Task {
-    Run(Job),
-    Rank(Vec<Aim>),
-}
-
 /// A command with its options, as the command line of `cudf_check` has them.
 #[derive(Drop)]
 pub(crate) struct Asked {
-    pub(crate) task: Task,
+    pub(crate) job: Job,
     pub(crate) mode: Mode,
     /// Whether lines name the files: `P`, and `S1` and so on.
     pub(crate) names_files: bool,
@@ -97,19 +90,19 @@ impl Options {
             is_also_long,
             is_also_paged,
         } = self;
-        let task = match command {
-            "lint" => Task::Run(Job::Lint { explain }),
-            "check" => Task::Run(Job::Check {
+        let job = match command {
+            "lint" => Job::Lint { explain },
+            "check" => Job::Check {
                 after,
                 limit,
                 explain,
-            }),
-            "score" => Task::Run(Job::Score { aims }),
-            "rank" => Task::Rank(aims?),
+            },
+            "score" => Job::Score { aims },
+            "rank" => Job::Rank { aims: aims? },
             _ => return None,
         };
         Some(Asked {
-            task,
+            job,
             mode,
             names_files,
             is_also_long,

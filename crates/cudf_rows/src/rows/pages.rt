@@ -1,6 +1,6 @@
 //! Whole listings, walked page by page from each printed key.
 use super::answer::{Answer, answer_once};
-use super::asked::{Asked, Task};
+use super::asked::Asked;
 use super::document::Documents;
 use cudf_check::{Job, Key, Mode};
 use std::alloc::{AllocError, Global};
@@ -72,7 +72,7 @@ fn page(
         explain: false,
     };
     let asked = Asked {
-        task: Task::Run(job),
+        job,
         mode: Mode::Lenient,
         names_files: false,
         is_also_long: false,

@@ -10,33 +10,33 @@ returns-in_err-outcome-clause-same_reference c =
     let order = c.args.order.now in
     let first = c.args.first.now in
     let others = c.args.others.now in
-    let problem = of_document order.names_files first c.document-problem.result c.perform.new.problem (c.document-problem.ensures (All-head IsUtf8 first.name.now (names_of others) c.requires.names)) in
-    let solutions = of_others order.names_files others _ _ c.perform.new.solutions c.deref_mut.ensures.value (c.in_ok-solutions.ensures (All-tail IsUtf8 first.name.now (names_of others) c.requires.names)) c.perform.auto.solutions in
-    run_named-ended order first others _ _ c.args.out.now c.perform.new.out problem solutions _ c.in_err-outcome.ensures
+    let problem = of_document order.names_files first c.document-problem.result c.run.new.first (c.document-problem.ensures (All-head IsUtf8 first.name.now (names_of others) c.requires.names)) in
+    let answers = of_others order.names_files others _ _ c.run.new.others c.deref_mut.ensures.value (c.in_ok-others.ensures (All-tail IsUtf8 first.name.now (names_of others) c.requires.names)) c.run.auto.others in
+    run_named-ended order first others _ _ c.args.out.now c.run.new.out problem answers _ c.in_err-outcome.ensures.runs
 
 pub returns-in_err-outcome-clause-written : goal.returns-in_err-outcome-clause-written
 returns-in_err-outcome-clause-written c =
     let order = c.args.order.now in
     let first = c.args.first.now in
     let others = c.args.others.now in
-    let problem = of_document order.names_files first c.document-problem.result c.perform.new.problem (c.document-problem.ensures (All-head IsUtf8 first.name.now (names_of others) c.requires.names)) in
-    let solutions = of_others order.names_files others _ _ c.perform.new.solutions c.deref_mut.ensures.value (c.in_ok-solutions.ensures (All-tail IsUtf8 first.name.now (names_of others) c.requires.names)) c.perform.auto.solutions in
-    run_ended order first others _ _ c.args.out.now c.perform.new.out problem solutions _ c.from_residual-in_err-outcome.result c.in_err-outcome.ensures c.from_residual-in_err-outcome.ensures
+    let problem = of_document order.names_files first c.document-problem.result c.run.new.first (c.document-problem.ensures (All-head IsUtf8 first.name.now (names_of others) c.requires.names)) in
+    let answers = of_others order.names_files others _ _ c.run.new.others c.deref_mut.ensures.value (c.in_ok-others.ensures (All-tail IsUtf8 first.name.now (names_of others) c.requires.names)) c.run.auto.others in
+    run_ended order first others _ _ c.args.out.now c.run.new.out problem answers _ c.from_residual-in_err-outcome.result c.in_err-outcome.ensures.runs c.from_residual-in_err-outcome.ensures
 
 pub returns-clause-same_reference : goal.returns-clause-same_reference
 returns-clause-same_reference c =
     let order = c.args.order.now in
     let first = c.args.first.now in
     let others = c.args.others.now in
-    let problem = of_document order.names_files first c.document-problem.result c.perform.new.problem (c.document-problem.ensures (All-head IsUtf8 first.name.now (names_of others) c.requires.names)) in
-    let solutions = of_others order.names_files others _ _ c.perform.new.solutions c.deref_mut.ensures.value (c.in_ok-solutions.ensures (All-tail IsUtf8 first.name.now (names_of others) c.requires.names)) c.perform.auto.solutions in
-    run_named order first others _ _ c.args.out.now c.perform.new.out problem solutions _ c.in_ok-outcome.ensures
+    let problem = of_document order.names_files first c.document-problem.result c.run.new.first (c.document-problem.ensures (All-head IsUtf8 first.name.now (names_of others) c.requires.names)) in
+    let answers = of_others order.names_files others _ _ c.run.new.others c.deref_mut.ensures.value (c.in_ok-others.ensures (All-tail IsUtf8 first.name.now (names_of others) c.requires.names)) c.run.auto.others in
+    run_named order first others _ _ c.args.out.now c.run.new.out problem answers _ c.in_ok-outcome.ensures.runs
 
 pub returns-clause-written : goal.returns-clause-written
 returns-clause-written c =
     let order = c.args.order.now in
     let first = c.args.first.now in
     let others = c.args.others.now in
-    let problem = of_document order.names_files first c.document-problem.result c.perform.new.problem (c.document-problem.ensures (All-head IsUtf8 first.name.now (names_of others) c.requires.names)) in
-    let solutions = of_others order.names_files others _ _ c.perform.new.solutions c.deref_mut.ensures.value (c.in_ok-solutions.ensures (All-tail IsUtf8 first.name.now (names_of others) c.requires.names)) c.perform.auto.solutions in
-    run_written order first others _ _ c.args.out.now c.perform.new.out problem solutions _ c.in_ok-outcome.ensures c.requires.report
+    let problem = of_document order.names_files first c.document-problem.result c.run.new.first (c.document-problem.ensures (All-head IsUtf8 first.name.now (names_of others) c.requires.names)) in
+    let answers = of_others order.names_files others _ _ c.run.new.others c.deref_mut.ensures.value (c.in_ok-others.ensures (All-tail IsUtf8 first.name.now (names_of others) c.requires.names)) c.run.auto.others in
+    run_written order first others _ _ c.args.out.now c.run.new.out problem answers _ c.in_ok-outcome.ensures.runs c.requires.report

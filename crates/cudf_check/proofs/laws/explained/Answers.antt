@@ -1,7 +1,6 @@
-use Rattle.std.proofs.Common.{◌++◌, None, codes, decimal, length, option_and_then, refl, ap, append-nil, true, false}
+use Rattle.std.proofs.Common.{◌++◌, None, codes, decimal, option_and_then, refl, ap, append-nil, true, false}
 use Rattle.cudf_text.specs.Faults.{fault_text}
 use Rattle.cudf_problem.specs.Universe.{package_at}
-use Rattle.cudf_cnf.specs.Cnf.{clauses_of, cnf}
 use Rattle.cudf_lrat.specs.Kinds.{kind_text}
 use Rattle.cudf_referee.specs.Violations.{met_by}
 use Rattle.cudf_check.specs.Explanations.{reason_added}
@@ -34,9 +33,9 @@ returns-clause-reasons c bytes proof problem reason = let text = met_text (refut
 }
 
 pub returns-clause-proofs : goal.returns-clause-proofs
-returns-clause-proofs c bytes proof problem number kind = let text = codes "proof line " ++ decimal number ++ codes ": " ++ kind_text kind in record {
+returns-clause-proofs c bytes proof clauses found number kind = let text = codes "proof line " ++ decimal number ++ codes ": " ++ kind_text kind in record {
   text = text;
-  added = proof_added true proof (length (clauses_of (cnf problem))) number kind;
+  added = proof_added true proof clauses number kind;
   plain_is = ap line (append-nil text);
   explained_is = refl;
 }

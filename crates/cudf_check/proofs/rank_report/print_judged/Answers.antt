@@ -6,10 +6,10 @@ use Rattle.cudf_check.proofs.JudgingLemmas.{entrants_own}
 use Rattle.cudf_check.proofs.rank_report.print_judged.Goals as goal
 
 pub ranked-requires : goal.ranked-requires
-ranked-requires g c = subst (λ es. IsTrue (have_own_places es)) (sym c.in-Ok.ensures.judged.found) (entrants_own c.args.problem.now 1 (map (λ b. b.items) c.args.ranked.texts.now))
+ranked-requires g c = subst (λ es. IsTrue (have_own_places es)) (sym c.in-Ok.ensures.judged.found) (entrants_own c.args.problem.now 1 (map (λ b. b.items) c.args.solutions.texts.now))
 
 pub returns-in-Err : goal.returns-in-Err
 returns-in-Err g c =
     let aims = c.args.aims.now in
-    let solutions = map (λ b. b.items) c.args.ranked.texts.now in
-    c.print_unranked.ensures c.args.setting.mode c.args.problem.now solutions (ranked_report aims (names_in g.S.Source.state c.args.ranked.sources.now) (entrants c.args.problem.now solutions)) c.in-Err.ensures.unranked
+    let solutions = map (λ b. b.items) c.args.solutions.texts.now in
+    c.print_unranked.ensures c.args.setting.mode c.args.problem.now solutions (ranked_report aims (names_in g.S.Source.state c.args.solutions.sources.now) (entrants c.args.problem.now solutions)) c.in-Err.ensures.unranked

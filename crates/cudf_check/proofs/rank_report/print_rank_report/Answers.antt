@@ -5,23 +5,21 @@ use Rattle.cudf_device.specs.Readers.{names_in}
 use Rattle.cudf_device.proofs.PaperLemmas.{Prints-as}
 use Rattle.cudf_check.specs.JobStyles.{named_style}
 use Rattle.cudf_check.specs.Naming.{own_file}
-use Rattle.cudf_check.specs.RankReport.{rank_report, solutions_report}
+use Rattle.cudf_check.specs.RankReport.{solutions_report}
 use Rattle.cudf_check.specs.Report.{faulty_or, problem_fault}
 use Rattle.cudf_check.specs.Styles.{of_problem}
 use Rattle.cudf_check.proofs.rank_report.print_rank_report.Goals as goal
 
 pub returns-in-Ok : goal.returns-in-Ok
-unfolding rank_report
 returns-in-Ok g c =
     let read = c.in-Ok.ensures in
     Prints-as _ _ _ _ _ _ (λ k. faulty_or (named_style (own_file (option_map (λ n. n.now) c.args.problem.name))) of_problem (codes "problem") (sym read.sound k)
-    (solutions_report c.args.aims.now c.args.setting.mode (names_in g.S.Source.state c.args.ranked.sources.now) (read.problem k) (map (λ b. b.items) c.args.ranked.texts.now)))
+    (solutions_report c.args.aims.now c.args.setting.mode (names_in g.S.Source.state c.args.solutions.sources.now) (read.problem k) (map (λ b. b.items) c.args.solutions.texts.now)))
     c.print_judged.ensures
 
 pub returns : goal.returns
-unfolding rank_report
 returns g c =
     let mode = c.args.setting.mode in
     let bytes = c.args.problem.bytes.now in
-    let rest = solutions_report c.args.aims.now mode (names_in g.S.Source.state c.args.ranked.sources.now) (plain_problem (plain_text bytes)) (map (λ b. b.items) c.args.ranked.texts.now) in
+    let rest = solutions_report c.args.aims.now mode (names_in g.S.Source.state c.args.solutions.sources.now) (plain_problem (plain_text bytes)) (map (λ b. b.items) c.args.solutions.texts.now) in
     Prints-as _ _ _ _ _ _ (ap (λ origin. faulty_or (named_style origin) of_problem (codes "problem") (problem_fault mode bytes) rest) c.own_file-origin.ensures) (c.print_unsound.ensures rest)

@@ -6,4 +6,4 @@ use Rattle.cudf_device.specs.Promises.PaperInside.{Says}
 use Rattle.cudf_check.proofs.lines.dimacs.print_clauses.Given as goal
 
 abbrev pub invariant-loop-index : goal.invariant-loop-index
-invariant-loop-index g l = Says g.W.Sink.state l.fn.paper l.paper (flat_map (λ c. clause_line c.1) (take l.index l.clauses.clauses))
+invariant-loop-index g l = Says g.W.Sink.state l.fn.paper l.paper (flat_map clause_line (take l.index l.cnf.clauses))

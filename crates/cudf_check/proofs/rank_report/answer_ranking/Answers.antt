@@ -1,9 +1,0 @@
-use Rattle.std.proofs.Common.{rules}
-use Rattle.cudf_device.proofs.PaperLemmas.{Prints-same}
-use Rattle.cudf_check.proofs.rank_report.answer_ranking.Goals as goal
-
-pub returns : goal.returns
-returns g c =
-    let same = Prints-same _ _ _ _ _ c.print_rank_report-answer.ensures in
-    let said = c.finish.ensures _ _ _ c.new-paper.ensures.blank c.print_rank_report-answer.ensures in
-    search rules
