@@ -11,6 +11,8 @@ CALLS = {
     "lint": ("strict", "explain"), "check": ("word", "limit", "strict", "explain"), "score": ("word", "strict"),
     "rank": ("word", "strict"), "cnf": ("strict",), "refute": ("strict", "explain"),
 }
+# in a call a word that begins so has any end: the last text stands for its file
+BETTER = b"--better-than="
 YES, NO, FAULTY, FAIL, USAGE, UNREAD, MEMORY = range(7)
 LONGEST, GREATEST = 268_435_456, 2**64 - 1
 # as library.c has them
@@ -53,9 +55,17 @@ class Request:
         words += [b"--limit=%d" % self.limit] * bool(self.limit)
         return [*words, *[b"--strict"] * self.strict, *[b"--explain"] * self.explain, *self.more]
 
+    def is_better(self):
+        """Whether the last text is an answer that is to be bettered."""
+        return any(isinstance(word, bytes) and word.startswith(BETTER) for word in self.more)
+
     def words(self, files):
         """The program's arguments for the same, with these files."""
-        return [self.call, *files, *self.options()]
+        if not self.is_better():
+            return [self.call, *files, *self.options()]
+        *files, last = files
+        named = BETTER + last.encode()
+        return [self.call, *files, *(named if word[:len(BETTER)] == BETTER else word for word in self.options())]
 
     def written(self):
         """The request as the driver reads it."""

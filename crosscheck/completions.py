@@ -31,6 +31,7 @@ TYPED = {
     "che\tan\t--st\t": ["check", "answer.cudf", "--strict"], "lint a\\ \t": ["lint", "a b.cudf"],
     "score --cri\t-rem\t,+to\t an\t": ["score", "--criteria=-removed,+touched", "answer.cudf"],
     "check --limit 3 an\tan\t": ["check", "--limit", "3", "answer.cudf", "answer.cudf"],
+    "cnf an\t--be\tan\t": ["cnf", "answer.cudf", "--better-than=answer.cudf"],
 }
 OPTION = re.compile(r"(?<![\w-])(?:-\w|--\w[\w-]*)\b")
 
@@ -130,6 +131,7 @@ def offers(commands, options, counts):
         "lint --strict -": options["lint"] - {"--strict"}, "lint --criteria=": set(),
         "score P --criteria=": aims, "rank --criteria=-": {aim for aim in aims if aim[0] == "-"},
         "rank --criteria=-removed,+new,": aims - {"-removed", "+removed", "-new", "+new"},
+        "cnf P --criteria=+": {aim for aim in aims if aim[0] == "+"}, "refute P F --b": {"--better-than"},
         "score --criteria=-new,+n": {"+notuptodate"}, "score --criteria=-size,-to": {"-touched"},
     }
 

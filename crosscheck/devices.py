@@ -33,6 +33,9 @@ BOTH = FILES["both"] = PROBLEM.replace("2\n\nrequest:", "2\ninstalled: true\n\nr
 # a problem that has no solution, and a proof of that
 WISH = FILES["wish"] = PROBLEM + "install: car\n"
 PROOF = FILES["proof"] = "3 0 2 1 0\n"
+# a proof that no answer to `p` removes less than `good`
+BEST = FILES["best"] = "4 0 1 2 3 0\n"
+BETTER = "--criteria=-removed --better-than"
 NEED = "p1.depends.1 car 1 line 1: needs wheel > 2"
 OK, YES, UNMET = map(TABLE.said, ("problem ok", "solution yes", "{unmet}"))
 # arguments, the status and the report
@@ -42,6 +45,8 @@ REPORTS = list(map(TABLE.report, (
 ))) + [
     ("cnf p", 0, "c p1 car 1\nc p2 wheel 2\np cnf 2 1\n-1 0\n"), ("refute p bad", 1, "proof line 1: L1 not a step\n"),
     ("refute wish proof", 0, f"r.install.1 line 9: needs car\n{NEED}\nno solution exists\n"),
+    (f"cnf p {BETTER} good", 0, "c p1 car 1\nc p2 wheel 2\np cnf 3 3\n-1 0\n1 3 0\n-3 0\n"),
+    (f"refute p best {BETTER} good", 0, "-removed 1\nno better solution exists\n"),
 ]
 FOUR_FILES = "rank --criteria=-removed p bad fail good"
 HELP = ("--version", "--help", "lint --help", "check -h", "help score", "rank --help")
@@ -133,7 +138,8 @@ def failing_reads(trial):
         ("check - bad", "0", PROBLEM, 2), ("check p -", "0", BAD, 2),
         ("rank --criteria=-removed p good - bad", "0", BAD, 2), ("cnf p", "p", "", 1), ("cnf -", "0", PROBLEM, 2),
         ("refute wish proof", "wish", "", 1), ("refute wish proof", "proof", "", 1),
-        ("refute - proof", "0", WISH, 2), ("refute wish -", "0", PROOF, 2),
+        ("refute - proof", "0", WISH, 2), ("refute wish -", "0", PROOF, 2), (f"cnf p {BETTER} good", "good", "", 1),
+        (f"refute p best {BETTER} good", "best", "", 1), (f"refute p best {BETTER} -", "0", GOOD, 2),
     ):
         few = [rule("read", it, BYTES_A_READ) for it in (*words.split(), "0")]
         reads = len(answers(trial.calls(words, *few, data=data)[1], "read", name))
@@ -144,7 +150,7 @@ def failing_reads(trial):
 
 
 def failing_opens(trial):
-    for words in (FOUR_FILES, "cnf p", "refute wish proof"):
+    for words in (FOUR_FILES, "cnf p", "refute wish proof", f"refute p best {BETTER} good"):
         for name in (word for word in words.split() if word in FILES):
             each_fails(trial, words, ("open", name), UNOPENED.format(name, "{}"), OPEN_ERRORS)
 
@@ -178,7 +184,8 @@ def too_long(trial):
     with open("huge", "wb") as file:
         file.truncate(GREATEST_INPUT + 1)
     for words in ("check huge bad", "rank --criteria=-new huge good bad", "rank --criteria=-new p huge bad",
-                  "cnf huge", "refute huge bad", "refute wish huge"):
+                  "cnf huge", "refute huge bad", "refute wish huge", f"cnf huge {BETTER} bad", f"cnf p {BETTER} huge",
+                  f"refute p huge {BETTER} bad"):
         ran, calls = trial.calls(words)
         trial.same(words, (ran, answers(calls, "read", "bad")), ((5, "", TABLE.said("{too long: huge}")), []))
 
@@ -193,6 +200,8 @@ def orders(trial):
         ("rank --criteria=-new p -- - --criteria", GOOD), (["check", "p", " "], ""), (["check", " p", " p "], ""),
         (["rank", "--criteria=-new", "p", " "], ""), ("cnf p", ""), ("cnf -", PROBLEM), ("refute p bad", ""),
         ("refute wish proof", ""), ("refute - proof", WISH), ("refute wish -", PROOF), ("refute faulty proof", ""),
+        (f"cnf p {BETTER} good", ""), (f"refute p best {BETTER} -", GOOD), (f"refute p - {BETTER} good", BEST),
+        (f"refute faulty best {BETTER} good", ""),
     ):
         ran, calls = trial.calls(words, data=data)
         inputs = ["0" if word == "-" else word for word in split(words) if word in FILES or word == "-"]
@@ -216,7 +225,8 @@ def unopened(trial):
     for words in (
         "--help", "--version", "rank --help", "check - - --limit 0", "check p bad --after x", "score - -", "lint p bad",
         "rank p good", "rank --criteria +new p good", "judge p", "rank --criteria=-new p - -",
-        "cnf", "cnf p bad", "refute p", "refute - -", "refute p bad bad",
+        "cnf", "cnf p bad", "refute p", "refute - -", "refute p bad bad", "cnf p --better-than good",
+        "cnf p --criteria=-new", f"cnf - {BETTER} -", f"refute p best --explain {BETTER} good",
     ):
         trial.same(f"{words}: files", [it for it in trial.calls(words)[1] if it.call != "write"], [])
 

@@ -7,6 +7,7 @@ from common import read, unescaped
 from second.criteria import COUNTS
 from second.documents import WISHES
 from second.keys import ASPECTS
+from second.lrat import Prover
 from second.values import BLANKS, ENTRIES, OPERATORS, PROPERTIES, RESERVED
 
 FAILS = (b"FAIL", b"# c\n FAIL\r\nx")
@@ -350,6 +351,13 @@ class Inputs(Faults):
         if self.now_and_then(0.1):
             return self.pick(WORDS.odd_lists)
         return ",".join(self.pick("-+") + self.pick(COUNTS) for _ in range(self.pick((1, 1, 2, 2, 3, 4, 9))))
+
+    def proof(self, asked):
+        """A proof that nothing is better, or of something else; now and then of another form."""
+        if not asked.refused and self.now_and_then(0.7):
+            proof = Prover(len(asked.rules.packages), asked.clauses).text()
+            return proof if self.now_and_then(0.7) else proof[:self.chance.randrange(len(proof) + 1)]
+        return self.pick((b"", b"1 0 0\n", b"99 1 0 1 2 0\n", self.pick(WORDS.no_step).encode(), self.pick(ODD_BYTES)))
 
     def key(self):
         """A key, of a violation or not."""

@@ -26,7 +26,10 @@ import shutil
 import sys
 
 import common
-from calls import CALLS, DOCUMENTS, FAIL, FAULTY, GREATEST, MEMORY, NO, REFUSED, USAGE, YES, Request, answers, table
+from better import random_question
+from calls import (
+    BETTER, CALLS, DOCUMENTS, FAIL, FAULTY, GREATEST, MEMORY, NO, REFUSED, USAGE, YES, Request, answers, table,
+)
 from common import DONE, ROOT, contents, read, write
 from common import run_alike as run
 from inputs import Inputs
@@ -136,6 +139,7 @@ def asked(trial, request):
 def refused(trial, request):
     """The program's message for the words that the library makes of a request, or None if one can't be an argument."""
     names = [*request.names, *[b""] * (len(request.texts) - len(request.names))]
+    names = names[:-1] if request.is_better() else names
     words = [request.call] * bool(request.call) + request.options() + [b"--"] * bool(names) + names
     if any(b"\0" in word for word in words if isinstance(word, bytes)):
         return None
@@ -171,6 +175,13 @@ def random_requests(number):
         ("rank", (problem, *solutions), inputs.aims().encode() or b"-new"), ("cnf", (problem,)), ("cnf", (small,)),
     ):
         yield Request(call, texts, *more, strict=strict)
+    # what is better than one of these, and than a solution of another problem, with a proof if nothing is
+    question = random_question(None, chance, 5)
+    other, answer, aims = question.texts
+    cases = [(pair, proof, inputs.aims().encode()), ((other, answer), inputs.proof(question), aims.encode())]
+    for (given, answer), shown, listed in cases:
+        for call, texts in (("cnf", (given, answer)), ("refute", (given, shown, answer))):
+            yield Request(call, texts, listed, strict=strict, more=(BETTER + b"answer",))
 
 
 def beside(trial):
@@ -179,7 +190,7 @@ def beside(trial):
     for number in range(1, PAIRS + 1):
         for request in random_requests(number):
             rows.append((f"pair {number}: {request}", *asked(trial, request)))
-            if not request.more:
+            if not request.more or request.is_better():
                 yield from through_python(module, *rows[-1])
     statuses = {status for *_, status, _ in rows}
     yield "statuses that never came", {YES, NO, FAULTY, FAIL, USAGE} - statuses, set()
@@ -192,8 +203,9 @@ def through_python(module, name, request, status, report):
     problem, *others = request.texts
     others = [others] if request.call == "rank" else others
     values = {**vars(request), "word": request.word.decode() or None, "limit": request.limit or None}
+    better = {"better_than": others.pop(), "criteria": values["word"]} if request.is_better() else {}
     try:
-        answer = getattr(module, request.call)(problem, *others, *(values[it] for it in CALLS[request.call]))
+        answer = getattr(module, request.call)(problem, *others, *(values[it] for it in CALLS[request.call]), **better)
         lines = "".join(f"{line}\n" for line in lines_of(request, answer))
     except ValueError as error:
         wanted = report.decode().partition("\n\nUsage: ")[0]
@@ -225,10 +237,16 @@ def lines_of(request, answer):
         yield f"proof line {proof_fault.line}: {proof_fault.kind} {text_of(proof_fault)}"
     elif call == "lint":
         yield "problem ok"
+    elif call in ("cnf", "refute") and answer.verdict:
+        yield f"solution {answer.verdict}"
     elif call == "cnf":
+        # the variables after the packages are all in clauses
+        variables = max([len(answer.packages), *(abs(literal) for clause in answer.clauses for literal in clause)])
         yield from (f"c p{place} {name} {version}" for place, (name, version) in enumerate(answer.packages, 1))
-        yield f"p cnf {len(answer.packages)} {len(answer.clauses)}"
+        yield f"p cnf {variables} {len(answer.clauses)}"
         yield from (" ".join(map(str, (*clause, 0))) for clause in answer.clauses)
+    elif call == "refute" and request.is_better():
+        yield from [f"{aim} {count}" for aim, count in answer.counts] + ["no better solution exists"]
     elif call == "refute":
         yield from [violation_of(reason) for reason in answer.reasons] + ["no solution exists"]
     elif call == "rank":

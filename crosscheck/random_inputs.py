@@ -17,12 +17,15 @@ import common
 from common import write
 from inputs import Inputs
 from second import reports
+from second.better import Better
 
 BLOCK = 50
 EXPLAIN = ["--explain"]
 MORE = "more after "
 RULES = "depends|conflicts|keep|install|remove|unsatisfied|many|lower|unknown"
-KIND = re.compile(rf"^more|\bE\d+|\b(?:{RULES}|yes|no|FAIL)\b")
+KIND = re.compile(rf"^more|^p cnf|^no better|\b[EL]\d+|\b(?:{RULES}|yes|no|FAIL)\b")
+# a line of a CNF that isn't counted
+OF_CNF = re.compile(r"c p|[-\d ]+$")
 
 
 class Input:
@@ -57,6 +60,9 @@ class Input:
             yield self.page(self.inputs.key(), str(self.inputs.chance.randrange(1, 4)))
             yield self.page(**self.inputs.page())
         yield from self.ranks(self.inputs.aims())
+        # its clauses take the second implementation long
+        if not self.inputs.is_long:
+            yield from self.betters(self.inputs.aims())
 
     def words(self, job, files, *options):
         """The words of a job, with options at any place after it."""
@@ -92,11 +98,31 @@ class Input:
         yield self.on_files("rank", files, (self.problem, *self.solutions), wanted, [f"--criteria={aims}"])
         yield self.words("rank", files, ["-H"], [f"--criteria={aims}"]), b"", reports.named(wanted, *files)
 
+    def betters(self, aims):
+        """Clauses for a better answer, and a proof that there is none; then words that don't go together."""
+        asked = Better(self.second, aims)
+        proof = self.inputs.proof(asked)
+        cases = (("cnf", [], asked.cnf()), ("refute", [proof], asked.refute(proof)))
+        for job, proofs, wanted in cases:
+            texts = [self.problem, *proofs, self.solution]
+            files = [write(self.folder, f"file{at}", text) for at, text in enumerate(texts)]
+            place = self.inputs.chance.randrange(len(files) + 1)
+            *files, solution = ["-" if at == place else name for at, name in enumerate(files)]
+            pair = [[f"--criteria={aims}"], self.option("better-than", solution)]
+            yield self.words(job, files, *pair), (*texts, b"")[place], wanted
+            wrong = [pair[:1], pair[1:], [*pair, EXPLAIN], [*pair, ["-H"]], [*pair, pair[1]]]
+            wrong += [[["--criteria", aims], pair[1]], [pair[0], ["--better-than"], EXPLAIN]]
+            yield self.words(job, files, *self.inputs.pick(wrong)), (*texts, b"")[place], ([], reports.USAGE)
+
+    def option(self, name, value):
+        """One word or two."""
+        return [f"--{name}={value}"] if self.inputs.now_and_then(0.3) else [f"--{name}", value]
+
     def page(self, after=None, limit=None, explains=None):
         """One page, each of its options as one word or two."""
         explains = self.inputs.now_and_then(0.5) if explains is None else explains
-        given = [(f"--{name}", value) for name, value in (("after", after), ("limit", limit)) if value is not None]
-        options = [[f"{name}={value}"] if self.inputs.now_and_then(0.3) else [name, value] for name, value in given]
+        given = {"after": after, "limit": limit}
+        options = [self.option(name, value) for name, value in given.items() if value is not None]
         words = self.words("check", self.files, *options, *[EXPLAIN] * explains)
         return words, b"", self.second.check(after, limit, explains)
 
@@ -123,7 +149,8 @@ def compare_block(job):
             it = Input(seed, number, folder)
             for words, data, wanted in it.runs():
                 trial.same((number, words, data, it.problem, it.solution), trial.answer(words, data), wanted)
-                counts.update((KIND.search(line) or re.match(r"\S+", line)).group() for line in wanted[0])
+                lines = [line for line in wanted[0] if not OF_CNF.match(line)]
+                counts.update((KIND.search(line) or re.match(r"\S+", line)).group() for line in lines)
             counts["inputs with an error"] += it.second.check()[1] == reports.FAULTY
     return trial.rows, trial.wrong, counts
 

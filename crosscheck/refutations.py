@@ -169,6 +169,13 @@ class Small:
         return ("".join(map(self.package, pairs)) + "request:\n" + wishes).encode()
 
 
+class Mild(Small):
+    """Problems of which more have a solution: most lists are empty."""
+
+    def some(self, make, most):
+        return super().some(make, most) if self.chance.random() < 0.4 else ""
+
+
 class Encoded:
     """A problem without error, and of each status the keys of the clauses that it falsifies."""
 

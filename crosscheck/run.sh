@@ -6,9 +6,10 @@ python3 crosscheck/commands.py "$1"
 python3 crosscheck/devices.py "$1"
 python3 crosscheck/memory.py "$1" >build/memory.log || { cat build/memory.log >&2; exit 1; }
 tail -n 1 build/memory.log
-# the stored rows, and proofs that there is no solution
+# the stored rows, and proofs that there is no solution, or no better one
 python3 crosscheck/stored.py "$1"
 python3 crosscheck/refutations.py "$1"
+python3 crosscheck/better.py "$1"
 # what the pages show, and the scripts that judge FAIL
 python3 crosscheck/docs.py "$1"
 python3 crosscheck/fails.py "$1"

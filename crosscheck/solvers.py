@@ -5,6 +5,7 @@ usage: solvers.py answers PROGRAM SEED COUNT [FILE..]
        solvers.py optima PROGRAM SEED COUNT
        solvers.py libcudf PROGRAM SEED COUNT
        solvers.py cadical PROGRAM SEED COUNT [SPOILT [CHECKED]]
+       solvers.py optimal PROGRAM SEED COUNT
 
 - answers: mccs, aspcud and packup, as far as they are installed, answer COUNT plain problems, COUNT others, as many of
   refutations.py, and the FILES. `check` judges each answer, and fail.sh of examples/competition each FAIL. An answer of
@@ -12,7 +13,8 @@ usage: solvers.py answers PROGRAM SEED COUNT [FILE..]
   came of them for each solver, and each FILE with a FAIL.
 - optima: mccs and aspcud answer COUNT problems for each of some lists of criteria. For answers to one list, `score` has
   the same counts in the order of the list, and the last one is the objective value that mccs writes; `rank` puts all
-  solutions in the order of their counts, and an answer for its list has those of the first.
+  solutions in the order of their counts, and an answer for its list has those of the first. By fail.sh, with cadical,
+  nothing is better.
 - libcudf: COUNT problems, each with three statuses: the initial one with few, some and many packages changed. `check`
   and `cudf-check` agree on what is a solution. Upgrades of features and `f < 1`, which they read differently, aren't in
   the problems.
@@ -21,8 +23,12 @@ usage: solvers.py answers PROGRAM SEED COUNT [FILE..]
   `cnf` prints the CNF of the second implementation. A model that cadical finds is a solution, also by `check`; a proof
   is accepted by `refute`, with the lines of the second checker. It answers as that checker to SPOILT (500) proofs that
   are changed, or another problem's. Where a proof is accepted, every status violates an instance of a line.
+- optimal: COUNT questions of better.py, of up to 8 packages. cadical finds a model of the clauses of `cnf --better-than`
+  exactly if one of all statuses is a solution that is better. The packages of a model are, and `rank` puts them first;
+  then it is asked what is better than these, until nothing is, and `refute` accepts the proof. It answers as the second
+  checker to proofs that are changed or another question's, and accepts none where something is better.
 
-Each part also prints how many there were of what. fail.sh and the last part need cadical 1.7 or later.
+Each part also prints how many there were of what. fail.sh and the last two need cadical 1.7 or later.
 """
 import collections
 import os
@@ -32,9 +38,10 @@ import shutil
 import sys
 import tempfile
 
+from better import document, random_question
 from common import contents, read, run, start, write
 from docs import SCRIPTS, leave
-from refutations import Encoded, Small, keys_in, proof_answer, spoilt
+from refutations import Encoded, Mild, Small, keys_in, proof_answer, spoilt
 from second.universe import installing
 
 NAMES, FEATURES = ["car", "wheel", "door", "engine", "glass", "tyre"], ["drive", "light"]
@@ -129,6 +136,14 @@ def words_of(solver, given, answer, criteria=("removed", "changed")):
     }[solver]
 
 
+def shown(trial, given, *better):
+    """The status of fail.sh for a problem, or for an answer to it and a list."""
+    with tempfile.TemporaryDirectory() as folder:
+        os.symlink(trial.program, f"{folder}/cudf_check")
+        environment = {**os.environ, "PATH": f"{folder}:{os.environ['PATH']}"}
+        return run(["sh", f"{SCRIPTS}/fail.sh", given, f"{folder}/witness", *better], env=environment).status
+
+
 def judged(trial, solvers, kind, given):
     """Counts what comes of the answers to a problem; yields the kind and the name of each."""
     found, verdict = {}, ""
@@ -143,10 +158,7 @@ def judged(trial, solvers, kind, given):
                 name = f"{read(given)}---- {solver} answered\n{read(answer)}---- judged\n{report}"
                 trial.same(name, found[solver] in (0, 3), True)
         if 3 in found.values():
-            os.symlink(trial.program, f"{folder}/cudf_check")
-            environment = {**os.environ, "PATH": f"{folder}:{os.environ['PATH']}"}
-            status = run(["sh", f"{SCRIPTS}/fail.sh", given, f"{folder}/witness"], env=environment).status
-            verdict = {0: "right", 1: "wrong"}.get(status, "not decided")
+            verdict = {0: "right", 1: "wrong"}.get(shown(trial, given), "not decided")
     for solver, status in found.items():
         yield solver, {0: "solutions", 1: "no solutions", 3: "FAILs"}.get(status, "no answers")
         if status == 3:
@@ -222,6 +234,11 @@ def optima(trial, seed, count):
         tally.update(f"{answer.solver} {answer.verdict}" for answer in every)
         for criteria in LISTS:
             tally["compared"] += all(answer.is_compared for answer in every if answer.criteria == criteria)
+            for answer in every:
+                if answer.criteria == criteria and answer.is_optimal:
+                    status = shown(trial, trial.place("problem"), answer.path, ",".join("-" + it for it in criteria))
+                    tally[f"{answer.solver} optimal"] += status == 0
+                    trial.same(f"{text}{criteria}: is this optimal?\n{answer.text}", status, 0)
             answered = "".join(f"---- {answer.path}\n{answer.text}" for answer in every)
             trial.same(f"{text}{criteria}\n{answered}", list(differences(trial, every, criteria)), [])
     print(", ".join(f"{key} {number}" for key, number in sorted(tally.items())))
@@ -246,10 +263,9 @@ def libcudf(trial, seed, count):
     print(", ".join(f"{verdict} {number}" for verdict, number in tally.items()))
 
 
-class Mild(Small):
-    """Problems of which more have a solution: most lists are empty."""
-    def some(self, make, most):
-        return super().some(make, most) if self.chance.random() < 0.4 else ""
+def model_of(output):
+    """The literals of a model that cadical prints."""
+    return frozenset(int(word) for line in output.splitlines() if line[:1] == "v" for word in line.split()[1:])
 
 
 class Asked(Encoded):
@@ -283,8 +299,7 @@ class Asked(Encoded):
         ended = run(["cadical", "-q", "--lrat", "--no-binary", cnf, path]).decoded()
         self.compare("solved", ended.status, REFUTED if all(self.falsified.values()) else SATISFIABLE)
         if ended.status == SATISFIABLE:
-            words = [word for line in ended.output.splitlines() if line[:1] == "v" for word in line.split()[1:]]
-            model = {int(word) for word in words}
+            model = model_of(ended.output)
             self.compare("solutions", self.ask("check", self.solution(model).encode()), (["solution yes"], 0), model)
             return None
         proof = contents(path)
@@ -319,9 +334,50 @@ def cadical(trial, seed, count, most_spoilt="500", checked="100"):
     print(", ".join(f"{name} {number}" for name, number in tally.items()))
 
 
+def solved(trial, question, tally):
+    """The packages of a better solution that cadical finds, and a proof if there is none."""
+    better, path = question.found(), trial.place("lrat")
+    question.clauses_given()
+    cnf = write(trial.folder, "cnf", "".join(f"{line}\n" for line in question.cnf()[0]).encode())
+    ended = run(["cadical", "-q", "--lrat", "--no-binary", cnf, path]).decoded()
+    question.same("solved", ended.status, SATISFIABLE if better else REFUTED)
+    tally[["better", "nothing better", "an empty clause"][(not better) + ([] in question.clauses)]] += 1
+    if not better:
+        question.same("proof", question.compare(contents(path)), True)
+        return None, contents(path)
+    model = model_of(ended.output) & set(range(1, len(question.rules.packages) + 1))
+    question.same(("model", model), (model in better, question.ranked([model])), (True, [model]))
+    return model, None
+
+
+def optimal(trial, seed, count):
+    proof, tally = b"1 0 0\n", collections.Counter()
+    for number in range(count):
+        dice, before, other = random.Random(f"{seed}/{number}"), [], proof
+        question = random_question(trial, dice, 8)
+        if question.refused:
+            tally["without a solution"] += 1
+            question.compare(proof, question.refused)
+            continue
+        model, proof = solved(trial, question, tally)
+        while model is not None:
+            before.append(question)
+            question = question.of(document(question.problem, model))
+            model, proof = solved(trial, question, tally)
+        # the last proof is wrong for what could be bettered, and so is each that is near it
+        for asked in before:
+            asked.same(("the last proof", proof), asked.compare(proof), False)
+            asked.spoil(proof, False, dice)
+            tally["spoilt, where something is better"] += 2
+        if [] not in question.clauses:
+            tally["spoilt, where nothing is"] += 1
+            tally["of these accepted"] += question.spoil(dice.choice((proof, other)), True, dice)
+    print(", ".join(f"{name} {number}" for name, number in tally.items()))
+
+
 # the parts, each with the programs that it needs
-PARTS = {"answers": (answers, []), "optima": (optima, ["mccs", "aspcud"]), "libcudf": (libcudf, ["cudf-check"]),
-         "cadical": (cadical, ["cadical"])}
+PARTS = {"answers": (answers, []), "optima": (optima, ["mccs", "aspcud", "cadical"]), "libcudf": (libcudf, ["cudf-check"]),
+         "cadical": (cadical, ["cadical"]), "optimal": (optimal, ["cadical"])}
 
 
 def main(part):

@@ -57,9 +57,13 @@ class Rules(Problem):
 
     def dimacs(self):
         """The lines that are printed."""
-        lines = [f"c p{package.place} {package.words()}" for package in self.packages]
-        lines.append(f"p cnf {len(self.packages)} {len(self.clauses)}")
-        return lines + [" ".join(map(str, [*clause, 0])) for _, clause in self.clauses]
+        return dimacs(self.packages, len(self.packages), [clause for _, clause in self.clauses])
+
+
+def dimacs(packages, variables, clauses):
+    lines = [f"c p{package.place} {package.words()}" for package in packages]
+    lines.append(f"p cnf {variables} {len(clauses)}")
+    return lines + [" ".join(map(str, [*clause, 0])) for clause in clauses]
 
 
 def is_satisfied(clause, status):
@@ -70,3 +74,22 @@ def statuses(count):
     """All sets of places."""
     for size in range(count + 1):
         yield from map(frozenset, combinations(range(1, count + 1), size))
+
+
+def extends(clauses, places, status):
+    """Whether values of the variables behind these places satisfy the clauses beside a status.
+
+    Those that unit propagation leaves open are false; None if this does not tell.
+    """
+    known, is_new = {place if place in status else -place for place in range(1, places + 1)}, True
+    while is_new:
+        is_new = False
+        for clause in clauses:
+            left = [literal for literal in clause if -literal not in known]
+            if not left:
+                return False
+            if len(left) == 1 and left[0] not in known:
+                known.add(left[0])
+                is_new = True
+    known |= {literal for clause in clauses for literal in clause if literal < 0 and -literal not in known}
+    return all(known & set(clause) for clause in clauses) or None
