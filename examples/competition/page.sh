@@ -1,4 +1,5 @@
-# page.sh TITLE DATE [TABLE] > index.html: totals, TABLE (table) and plots in one file, without scripts
+# page.sh TITLE DATE [TABLE] > index.html: totals, TABLE (table) and plots in one file, without scripts. Where optimal.sh has left
+# the file `optima`, TABLE has its column
 export LC_ALL=C
 [ $# -eq 2 ] || [ $# -eq 3 ] || { echo "usage: page.sh TITLE DATE [TABLE] > index.html" >&2; exit 4; }
 table=${3:-table}
@@ -20,6 +21,13 @@ columns() {
       print "</tr>" }
     NR == 1 { print "</thead><tbody>" }
     END { print "</tbody></table>" }'
+}
+
+# the table, with a column of what is known of the best answers
+cells() {
+  if [ ! -e optima ]; then cat "$table"; return; fi
+  awk 'kind == "optima" { word[$1] = $2; next }
+    { print $0, FNR == 1 ? "best" : $1 in word ? word[$1] : "-" }' kind=optima optima kind=table "$table"
 }
 
 # the figure $1 with the caption $2, by the commands of gnuplot on standard input
@@ -90,8 +98,8 @@ th, td { padding: .2em .7em; text-align: right; border-bottom: 1px solid #ddd; w
 thead th { border-bottom: 2px solid #888 }
 tbody th { font-weight: normal }
 th:first-child { text-align: left }
-.cells .is-1, .is-right { background: #c9ecc9; font-weight: bold }
-.is-FAIL { background: #fbe7b2 }
+.cells .is-1, .is-right, .is-optimal { background: #c9ecc9; font-weight: bold }
+.is-FAIL, .is-better { background: #fbe7b2 }
 .is-stopped, .is-missing { background: #e2e2e2 }
 .is-wrong, .is-no, .is-faulty, .is-folder, .is-long, .is-unread { background: #f6c6c6 }
 figure { margin: 1em 0 }
@@ -108,12 +116,13 @@ $(columns "$folder/totals")
 </div>
 <h2>Problems</h2>
 <div class=cells>
-$(columns "$table")
+$(cells > "$folder/cells"; columns "$folder/cells")
 <p>The corner has the list of criteria, a number is a solution's place by it: <b class=is-1>1</b> is the best, ties share one.
 <b class=is-right>right</b>: FAIL, and a checked proof says that there is no solution; <b class=is-wrong>wrong</b>: FAIL,
 but there is one; <b class=is-FAIL>FAIL</b>: not decided. <b class=is-no>no</b>: not a solution; <b class=is-faulty>faulty</b>:
 malformed; <b class=is-stopped>stopped</b>: out of time, or crashed; <b class=is-missing>missing</b>: no answer; pending: not
-run; unranked: the problem is malformed. Points: $(sed -n '2s/^# //p' points.sh | html). Seconds are elapsed ones, of all runs.</p>
+run; unranked: the problem is malformed.$([ ! -e optima ] || echo " best: <b class=is-optimal>optimal</b>: a checked proof says
+that no solution is better than those in place 1; <b class=is-better>better</b>: one is; undecided: neither is known.") Points: $(sed -n '2s/^# //p' points.sh | html). Seconds are elapsed ones, of all runs.</p>
 </div>
 <h2>Times</h2>
 $(plots)
