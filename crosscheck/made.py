@@ -12,6 +12,8 @@ Command = collections.namedtuple("Command", "words status report")
 Piece = collections.namedtuple("Piece", "text first last", defaults=(None, None))
 # the arguments, a file that is given at standard input or None, the sizes of the documents, and what is wanted
 Job = collections.namedtuple("Job", "words source sizes wanted")
+# the message with status 5, which a case has where the CNF of its problem is too large
+TOO_LARGE = "cudf_check: the CNF of {} would have more than 4294967295 clauses or 2147483647 variables\n"
 
 
 def cases(table):
@@ -67,7 +69,8 @@ class Made:
         files = {word: self.document(word) for word in words if word in self.case.documents}
         words = [files.get(word, word) for word in words]
         words, source = (words[:-2], words[-1]) if "<" in words else (words, None)
-        wanted = Ran(command.status, "".join(map(self.text_of, command.report)), "")
+        errors = TOO_LARGE.format(words[1]) if command.status == 5 else ""
+        wanted = Ran(command.status, "".join(map(self.text_of, command.report)), errors)
         return Job(words, source, [os.path.getsize(file) for file in files.values()], wanted)
 
 
