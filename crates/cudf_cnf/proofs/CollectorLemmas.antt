@@ -1,22 +1,29 @@
 -- What a collector has taken, with clauses more.
-use Rattle.std.proofs.Common.{◌≡◌, ℕ, ◌+◌, ◌<◌, Bool, true, false, List, [], ◌∷◌, ◌++◌, length, take, drop, get_or, sym, subst, ap, ◌∙◌, arith, append_assoc, length-append}
+use Rattle.std.proofs.Common.{◌≡◌, ℕ, ◌+◌, ◌<◌, ◌≤◌, Bool, true, false, nat_le, List, [], ◌∷◌, ◌++◌, length, take, drop, get_or, refl, sym, subst, ap, ◌∙◌, arith, append_assoc, length-append}
 use Rattle.std.specs.List.{flat_map}
 use Rattle.std.proofs.lemmas.Bool.{true≢false}
+use Rattle.std.proofs.lemmas.Bool.Decides.{nat_tests}
 use Rattle.std.proofs.lemmas.List.{append-nil, map-append, take_more, take-append-drop}
 use Rattle.std.proofs.lemmas.List.Concat.{flat_map-append}
+use Rattle.cudf_problem.specs.Universe.{PlainProblem}
 use Rattle.cudf_job.specs.Keys.{PlainKey}
 use Rattle.cudf_lrat.specs.declared.cnf.Literal.{Literal}
+use Rattle.cudf_referee.specs.Instances.{PlainInstance}
 use Rattle.cudf_cnf.specs.declared.collector.Collector.{Collector}
-use Rattle.cudf_cnf.specs.Cnf.{Keyed}
-use Rattle.cudf_cnf.specs.Working.Collecting.{HasTaken, Outcome, Received}
+use Rattle.cudf_cnf.specs.Cnf.{Keyed, cnf, keyed_clauses}
+use Rattle.cudf_cnf.specs.Working.Collecting.{Outcome, Received}
 use Rattle.cudf_cnf.specs.Working.Parts.{keyed}
 
--- it takes more
-pub taken_more : (xs more : List Keyed) (old new : Collector) → HasTaken xs old → new.dropped ≡ old.dropped → new.holds ≡ old.holds → new.clauses.clauses ≡ old.clauses.clauses ++ more → HasTaken (xs ++ more) new
-taken_more xs more old new taken dropped holds put = record {
-  counted = omega (arith, ap (λ (ks : List Keyed). length ks) put, length-append old.clauses.clauses more, length-append xs more, taken.counted, dropped);
-  held = λ h. put ∙ ap (λ (ks : List Keyed). ks ++ more) (taken.held (sym holds ∙ h));
-}
+-- whether there is room for what it holds
+pub has_space : (b : Bool) (n room : ℕ) → b ≡ true → b ≡ nat_le n room → n ≤ room
+has_space b n room h is = grind (arith, nat_tests)
+
+pub no_space : (b : Bool) (n room : ℕ) → b ≡ false → b ≡ nat_le n room → room < n
+no_space b n room h is = grind (arith, nat_tests)
+
+pub settled : (b : Bool) (xs : List Keyed) (c : Collector) → c.clauses.clauses ≡ xs → b ≡ nat_le (length c.clauses.clauses) c.room → Outcome b xs c
+settled true xs c held is = record { held = held; fits = has_space true (length c.clauses.clauses) c.room refl is }
+settled false xs c held is = subst (λ (ks : List Keyed). c.room < length ks) held (no_space false (length c.clauses.clauses) c.room refl is)
 
 pub outcome_as : (b : Bool) (xs ys : List Keyed) (c : Collector) → xs ≡ ys → Outcome b xs c → Outcome b ys c
 outcome_as b xs ys c same h = subst (λ (ks : List Keyed). Outcome b ks c) same h
@@ -32,6 +39,12 @@ had_room false xs c e h = absurd (true≢false (sym e))
 pub had_none : (b : Bool) (xs : List Keyed) (c : Collector) → b ≡ false → Outcome b xs c → c.room < length xs
 had_none true xs c e h = absurd (true≢false e)
 had_none false xs c e h = h
+
+-- with the clauses of one instance more
+pub one_more : (problem : PlainProblem) (held : List Keyed) (i : PlainInstance) (is rest : List PlainInstance) → is ≡ i ∷ rest → held ++ flat_map (keyed_clauses problem) is ≡ cnf problem
+    → (held ++ keyed_clauses problem i) ++ flat_map (keyed_clauses problem) rest ≡ cnf problem
+one_more problem held i is rest steps left =
+    append_assoc held (keyed_clauses problem i) (flat_map (keyed_clauses problem) rest) ∙ ap (λ (js : List PlainInstance). held ++ flat_map (keyed_clauses problem) js) (sym steps) ∙ left
 
 -- ---- one place after the other
 

@@ -1,11 +1,11 @@
 -- The CNF of a problem, held or too large.
-use Rattle.std.proofs.Common.{◌≡◌, ℕ, ◌<◌, ◌≤◌, ◌^◌, ◌||◌, Bool, true, false, not, nat_lt, length, Option, Some, None, sym, subst, ap, arith}
+use Rattle.std.proofs.Common.{◌≡◌, ℕ, ◌<◌, ◌≤◌, ◌^◌, ◌||◌, true, false, nat_lt, List, length, Option, Some, None, subst, ap, arith}
 use Rattle.std.proofs.lemmas.Bool.Decides.{nat_tests}
 use Rattle.cudf_problem.specs.Universe.{PlainProblem}
 use Rattle.cudf_cnf.specs.declared.collector.Collector.{Collector}
-use Rattle.cudf_cnf.specs.Cnf.{cnf, is_too_large}
+use Rattle.cudf_cnf.specs.Cnf.{Keyed, cnf, is_too_large}
 use Rattle.cudf_cnf.specs.Encodings.{IsEncoded, PlainKeyedClauses}
-use Rattle.cudf_cnf.specs.Working.Collecting.{IsHeld, Outcome, Received}
+use Rattle.cudf_cnf.specs.Working.Collecting.{IsHeld, Received}
 use Rattle.cudf_cnf.proofs.TestLemmas.{or_right}
 
 few_packages : (n : ℕ) → n < 2 ^ 32 → nat_lt 4294967295 n ≡ false
@@ -18,16 +18,11 @@ above : (n : ℕ) → 4294967295 < n → nat_lt 4294967295 n ≡ true
 above n h = grind (arith, nat_tests)
 
 -- a collector that holds all
-pub all_held : (problem : PlainProblem) (room : ℕ) (c : Collector) → Received (cnf problem) c → c.room ≡ room → c.holds ≡ true → c.clauses.places ≡ length problem.packages → IsHeld problem room (Some c.clauses)
-all_held problem room c r same holds places = (
-  subst (λ (n : ℕ). length (cnf problem) ≤ n) same r.fits,
-  (λ i. record { places = places i; clauses = r.taken.held holds i }),
+pub all_held : (problem : PlainProblem) (room : ℕ) (c : Collector) → Received (cnf problem) c → c.room ≡ room → c.clauses.places ≡ length problem.packages → IsHeld problem room (Some c.clauses)
+all_held problem room c r same places = (
+  omega (arith, r.fits, same, ap (λ (ks : List Keyed). length ks) r.held),
+  (λ i. record { places = places i; clauses = r.held i }),
 )
-
--- one that only counts
-pub counted : (problem : PlainProblem) (b : Bool) (c : Collector) → c.room ≡ 4294967295 → Outcome b (cnf problem) c → not b ≡ nat_lt 4294967295 (length (cnf problem))
-counted problem true c room r = sym (not_above (length (cnf problem)) (subst (λ (n : ℕ). length (cnf problem) ≤ n) room r.fits))
-counted problem false c room r = sym (above (length (cnf problem)) (subst (λ (n : ℕ). n < length (cnf problem)) room r))
 
 pub some_encoded : (problem : PlainProblem) (room : ℕ) (held : PlainKeyedClauses) → length problem.packages < 2 ^ 32 → room ≤ 4294967295 → IsHeld problem room (Some held) → IsEncoded problem (Some held)
 some_encoded problem room held few small h =

@@ -12,3 +12,4 @@ pub mod UpgradeLemmas
 pub mod CollectorLemmas
 pub mod InstanceLemmas
 pub mod EncodingLemmas
+pub mod CountLemmas

@@ -9,9 +9,9 @@ use Rattle.std.proofs.lemmas.List.Concat.{flat_map-append}
 use Rattle.std.proofs.lemmas.Bool.Decides.{nat_tests}
 use Rattle.cudf_problem.specs.Ids.{Id}
 use Rattle.cudf_problem.specs.Universe.{PlainPackage}
+use Rattle.cudf_index.specs.Promises.Counts.{differ}
 use Rattle.cudf_index.specs.Satisfaction.{Placed, gives, numbers_of, package_pairs}
 use Rattle.cudf_referee.specs.Violations.{are_lower, are_many}
-use Rattle.cudf_cnf.specs.Cnf.{differ}
 use Rattle.cudf_cnf.proofs.TestLemmas.{list_any-flat, list_any-or, list_any-same, list_any-swap, list_any-where}
 
 -- ---- each pair once

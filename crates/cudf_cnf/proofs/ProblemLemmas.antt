@@ -10,7 +10,7 @@ use Rattle.cudf_cnf.specs.Working.Parts.{Fits, IsAt}
 
 -- ---- the package at an index
 
-none_at : {A : Type 0} (n m : ℕ) (xs : List A) → m < n → filter (λ q. q.0 == m) (enumerate_from n xs) ≡ []
+pub none_at : {A : Type 0} (n m : ℕ) (xs : List A) → m < n → filter (λ q. q.0 == m) (enumerate_from n xs) ≡ []
 none_at n m [] h = refl
 none_at n m (x ∷ xs) h =
     let other : (n == m) ≡ false = grind (arith, nat_tests) in

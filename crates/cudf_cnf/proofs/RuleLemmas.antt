@@ -9,6 +9,7 @@ use Rattle.std.proofs.lemmas.List.Folds.{list_all-append, list_any-append}
 use Rattle.cudf_value.specs.Formulas.{PlainAtom}
 use Rattle.cudf_value.specs.Vpkgs.{PlainVpkg}
 use Rattle.cudf_problem.specs.Universe.{PlainPackage}
+use Rattle.cudf_index.specs.Promises.Counts.{differ}
 use Rattle.cudf_index.specs.Satisfaction.{Placed, meets_alone, numbers_of, satisfies, satisfies_clause, without, meets_clause_alone}
 use Rattle.cudf_index.proofs.SatisfactionLemmas.{member_alone}
 use Rattle.cudf_index.proofs.SearchLemmas.{list_any-filter}
@@ -20,7 +21,7 @@ use Rattle.cudf_referee.proofs.ListLemmas.{all_kept, filter-both, list_all-flat_
 use Rattle.cudf_referee.proofs.MissedLemmas.{always}
 use Rattle.cudf_referee.proofs.RemedyLemmas.{clause_alone}
 use Rattle.cudf_referee.proofs.StatusLemmas.{holds-filter}
-use Rattle.cudf_cnf.specs.Cnf.{differ, differing_clauses, is_out, needs_clauses, none_of, one_of}
+use Rattle.cudf_cnf.specs.Cnf.{differing_clauses, is_out, needs_clauses, none_of, one_of}
 use Rattle.cudf_cnf.proofs.PairLemmas.{lower_any, many-once}
 use Rattle.cudf_cnf.proofs.TestLemmas.{list_any-same, not_all}
 

@@ -9,13 +9,14 @@ use Rattle.std.proofs.lemmas.List.Folds.{flat_map-map, list_any_at, list_any_non
 use Rattle.cudf_problem.specs.Universe.{PlainPackage}
 use Rattle.cudf_value.specs.declared.relop.Relop.TheVariants.{Lt}
 use Rattle.cudf_value.specs.Vpkgs.{meets}
+use Rattle.cudf_index.specs.Promises.Counts.{differ}
 use Rattle.cudf_index.specs.Promises.Members.{IsGreatest}
 use Rattle.cudf_index.specs.Promises.Places.{gives_number, places_where}
 use Rattle.cudf_index.specs.Satisfaction.{Placed, numbers_of}
 use Rattle.cudf_lrat.specs.declared.cnf.Literal.{Literal}
 use Rattle.cudf_referee.specs.Violations.{are_lower, are_many}
 use Rattle.cudf_referee.proofs.ListLemmas.{none_kept}
-use Rattle.cudf_cnf.specs.Cnf.{differ, differing_clauses, is_out, none_of}
+use Rattle.cudf_cnf.specs.Cnf.{differing_clauses, is_out, none_of}
 use Rattle.cudf_cnf.specs.Working.Parts.{IsAt, differing_at, differs_from, givers_of, lower_by}
 use Rattle.cudf_cnf.proofs.ProblemLemmas.{package_at_index}
 use Rattle.cudf_cnf.proofs.PlaceLemmas.{map-map}

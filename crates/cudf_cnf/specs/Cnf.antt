@@ -2,14 +2,15 @@
 -- It is made instance by instance: a status satisfies the clauses of an instance exactly where it doesn't violate the instance.
 -- No variable is needed beside the packages: a status satisfies a vpkg or a clause of `depends` where one of its packages
 -- alone does, `true!` apart.
-use Rattle.std.specs.Prelude.{ℕ, Bool, true, false, not, ◌&&◌, ◌||◌, ◌==◌, nat_lt, List, [], ◌∷◌, ◌++◌, length, map, filter, Option, Some, None, if◌then◌else◌}
-use Rattle.std.specs.List.{flat_map, list_any, enumerate_from}
+use Rattle.std.specs.Prelude.{ℕ, Bool, true, false, ◌&&◌, ◌||◌, nat_lt, List, [], ◌∷◌, ◌++◌, length, map, filter, Option, Some, None, if◌then◌else◌}
+use Rattle.std.specs.List.{flat_map, enumerate_from}
 use Rattle.std.specs.Option.{option_map_or}
 use Rattle.cudf_value.specs.Formulas.{PlainAtom}
 use Rattle.cudf_value.specs.Vpkgs.{PlainVpkg}
 use Rattle.cudf_problem.specs.Ids.{Id}
 use Rattle.cudf_problem.specs.Statuses.{is_initial}
 use Rattle.cudf_problem.specs.Universe.{PlainProblem}
+use Rattle.cudf_index.specs.Promises.Counts.{differ}
 use Rattle.cudf_index.specs.Promises.Places.{is_named}
 use Rattle.cudf_index.specs.Satisfaction.{Placed, meets_alone, members, numbers_of, without, meets_clause_alone}
 use Rattle.cudf_job.specs.declared.key.Aspect.{Aspect}
@@ -48,10 +49,6 @@ needs_clauses all place clause =
 -- the package has the name of this pair
 abbrev pub is_subject : Option Id → Placed → Bool
 is_subject subject q = option_map_or (λ (name, version). is_named name q) subject false
-
--- two packages, or one with itself, give two different numbers of the name
-abbrev pub differ : List ℕ → Placed → Placed → Bool
-differ name p q = list_any (λ m. list_any (λ n. not (m == n)) (numbers_of name (q ∷ []))) (numbers_of name (p ∷ []))
 
 -- upgrade, many: of two packages that give two different numbers of the name one isn't installed; nor is one that does so alone
 abbrev pub differing_clauses : List Placed → List ℕ → Placed → List (List Literal)

@@ -39,14 +39,6 @@ impl KeyedClauses {
         }
     }
 
-    /// Takes all clauses out, and keeps the memory.
-    pub(crate) fn clear(&mut self)
-        ensures { self.new ≡ record { places = self.old.places; clauses = [] } }
-    {
-        self.cnf.clear();
-        self.keys.clear();
-    }
-
     /// How many clauses there are.
     pub fn len(&self) -> usize
         ensures { result ≡ length self.now.clauses }

@@ -1,5 +1,5 @@
 //! The clauses of the instances of a problem.
-ghost use Rattle.std.specs.Prelude.{◌≡◌, ◌-◌, ◌<◌, ◌^◌, ◌++◌, ℕ, IfOk, List, MatchOption, OnOk, Option, Some, false, length, slice_get};
+ghost use Rattle.std.specs.Prelude.{◌≡◌, ◌-◌, ◌<◌, ◌≤◌, ◌^◌, ◌++◌, ℕ, IfOk, MatchOption, OnOk, Option, Some, false, length, slice_get};
 ghost use Rattle.std.specs.List.{enumerate_from};
 ghost use Rattle.cudf_value.specs.Promises.Views.{vpkg_view};
 ghost use Rattle.cudf_problem.specs.Statuses.{is_initial};
@@ -9,8 +9,8 @@ ghost use Rattle.cudf_job.specs.KeyViews.{key_view};
 ghost use Rattle.cudf_referee.specs.Instances.{upgrade};
 ghost use Rattle.cudf_referee.specs.Promises.Views.{instance_view};
 ghost use Rattle.cudf_referee.specs.Promises.Where.{IsWhere};
-ghost use Rattle.cudf_cnf.specs.Cnf.{Keyed, keyed_clauses, upgrade_clauses};
-ghost use Rattle.cudf_cnf.specs.Working.Collecting.{Outcome, Received, SameFrame};
+ghost use Rattle.cudf_cnf.specs.Cnf.{keyed_clauses, upgrade_clauses};
+ghost use Rattle.cudf_cnf.specs.Working.Collecting.{Outcome, SameFrame};
 ghost use Rattle.cudf_cnf.specs.Working.Parts.{AreBefore, Fits, is_many, is_many_what, keyed};
 
 use crate::clauses::KeyedClauses;
@@ -32,7 +32,7 @@ use std::alloc::{AllocError, Global};
 pub(crate) struct Encoder<'p, 't> {
     pub(crate) problem: &'p Problem<'t>,
     /// All packages, installed or not.
-    all: Index<'p, 't>,
+    pub(crate) all: Index<'p, 't>,
     /// For each entry of `upgrade`, the greatest number of its name before.
     before: Vec<Option<u64>>,
     ghost every: { all ≡ enumerate_from 1 problem.now.packages },
@@ -58,7 +58,7 @@ impl<'p, 't> Encoder<'p, 't> {
     }
 
     /// The greatest number that was given before of the name of an entry of `upgrade`, by its number from 1.
-    fn greatest(&self, number: u64) -> Option<u64>
+    pub(crate) fn greatest(&self, number: u64) -> Option<u64>
         requires { 0 < number }
         ensures { (kept : Option ℕ) → slice_get self.now.before.items (number - 1) ≡ Some kept → result ≡ kept }
     {
@@ -130,16 +130,17 @@ impl<'p, 't> Encoder<'p, 't> {
         to: &mut Collector,
     ) -> Result<bool, AllocError>
         requires places { to.old.clauses.places ≡ length self.now.problem.now.packages }
+        requires room { length to.old.clauses.clauses ≤ to.old.room }
         requires before { AreBefore self.now.problem.now self.now.before.items }
         requires at { IsWhere self.now.problem.now (instance_view instance.now) }
-        ensures outcome { (xs : List Keyed) → Received xs to.old → IfOk result (λ all_put. Outcome all_put (xs ++ keyed_clauses self.now.problem.now (instance_view instance.now)) to.new) }
+        ensures outcome { IfOk result (λ all_put. Outcome all_put (to.old.clauses.clauses ++ keyed_clauses self.now.problem.now (instance_view instance.now)) to.new) }
         ensures same { SameFrame to.old to.new }
     {
         if let Some(vpkg) = many_of(instance) {
             return put_many(alloc, &self.all, instance.key, vpkg.name, to);
         }
         self.put_other(instance, &mut to.scratch, &mut to.clauses)?;
-        Ok(to.settle())
+        Ok(to.has_room())
     }
 }
 

@@ -4,6 +4,7 @@
 
 mod clauses;
 mod collector;
+mod counted;
 mod encoder;
 mod encoding;
 pub mod laws;

@@ -1,11 +1,11 @@
 //! The clauses of `many`: of two packages that give two different numbers of a name one isn't installed.
-ghost use Rattle.std.specs.Prelude.{◌≡◌, ◌++◌, ◌∷◌, [], IfOk, List, OnOk, filter, map, nat_lt};
+ghost use Rattle.std.specs.Prelude.{◌≡◌, ◌≤◌, ◌++◌, ◌∷◌, [], IfOk, OnOk, filter, length, map, nat_lt};
 ghost use Rattle.std.specs.List.{flat_map};
 ghost use Rattle.cudf_index.specs.Satisfaction.{numbers_of};
 ghost use Rattle.cudf_job.specs.KeyViews.{key_view};
 ghost use Rattle.cudf_referee.specs.Violations.{are_many};
-ghost use Rattle.cudf_cnf.specs.Cnf.{Keyed, is_out};
-ghost use Rattle.cudf_cnf.specs.Working.Collecting.{Outcome, Received, SameFrame};
+ghost use Rattle.cudf_cnf.specs.Cnf.{is_out};
+ghost use Rattle.cudf_cnf.specs.Working.Collecting.{Outcome, SameFrame};
 ghost use Rattle.cudf_cnf.specs.Working.Parts.{ArePlaces, Fits, IsPlace, differing_at, givers_of, keyed};
 
 use crate::clauses::KeyedClauses;
@@ -89,7 +89,8 @@ fn put_each_differing(
 ) -> Result<bool, AllocError>
     requires fits { Fits to.old.clauses.places all.now }
     requires givers { ArePlaces to.old.clauses.places givers.now }
-    ensures outcome { (xs : List Keyed) → Received xs to.old → IfOk result (λ all_put. Outcome all_put (xs ++ keyed (key_view key) (flat_map (differing_at all.now name.now) givers.now)) to.new) }
+    requires room { length to.old.clauses.clauses ≤ to.old.room }
+    ensures outcome { IfOk result (λ all_put. Outcome all_put (to.old.clauses.clauses ++ keyed (key_view key) (flat_map (differing_at all.now name.now) givers.now)) to.new) }
     ensures same { SameFrame to.old to.new }
 {
     for place in givers {
@@ -101,7 +102,7 @@ fn put_each_differing(
             &mut to.scratch.places,
             &mut to.clauses,
         )?;
-        if !to.settle() {
+        if !to.has_room() {
             return Ok(false);
         }
     }
@@ -117,8 +118,9 @@ pub(crate) fn put_many(
     name: &str,
     to: &mut Collector,
 ) -> Result<bool, AllocError>
-    requires { Fits to.old.clauses.places all.now }
-    ensures outcome { (xs : List Keyed) → Received xs to.old → IfOk result (λ all_put. Outcome all_put (xs ++ keyed (key_view key) (flat_map (differing_at all.now name.now) (givers_of all.now name.now))) to.new) }
+    requires fits { Fits to.old.clauses.places all.now }
+    requires room { length to.old.clauses.clauses ≤ to.old.room }
+    ensures outcome { IfOk result (λ all_put. Outcome all_put (to.old.clauses.clauses ++ keyed (key_view key) (flat_map (differing_at all.now name.now) (givers_of all.now name.now))) to.new) }
     ensures same { SameFrame to.old to.new }
 {
     if !has_several(all, name) {

@@ -9,9 +9,8 @@ use Rattle.std.proofs.lemmas.Bool.Decides.{nat_tests}
 use Rattle.std.proofs.lemmas.List.{append-nil}
 use Rattle.std.proofs.lemmas.Slice.Eq.{bytes_eq-Decides}
 use Rattle.cudf_index.specs.Satisfaction.{Placed}
-use Rattle.cudf_index.specs.declared.index.entries.Entries.{Entries}
 use Rattle.cudf_index.specs.declared.index.gathered_names.Provision.{Provision}
-use Rattle.cudf_index.specs.Working.Kept.{Keeps, found}
+use Rattle.cudf_index.specs.Working.Kept.{found}
 use Rattle.cudf_index.specs.Working.Gathering.{row_items}
 
 module _ {K R : Type 0} (test : K → Bool) where
@@ -40,10 +39,10 @@ module _ {K R : Type 0} (test : K → Bool) where
           ∙ ap (λ b. option_and_then (slice_get (r ∷ rs)) (cond b (Some (1 + position_or_len test ks)) None)) (sym (next (position_or_len test ks) (length ks)))
 
 -- what is read at the place of a name is what is kept of it
-pub keeps_read : (name : List ℕ) (status now : List Placed) (keys : List (Bor (List ℕ))) (entries : List Entries) (at : Option ℕ) (kept : Option Entries)
+pub keeps_read : {E : Type 0} (Keeps : List ℕ → List Placed → Option E → Type 0) (name : List ℕ) (status now : List Placed) (keys : List (Bor (List ℕ))) (entries : List E) (at : Option ℕ) (kept : Option E)
     → status ≡ now → at ≡ position (λ k. bytes_eq name k.now) keys → kept ≡ option_and_then (slice_get entries) at
     → Keeps name status (found (λ k. bytes_eq name k.now) keys entries) → Keeps name now kept
-keeps_read name status now keys entries at kept view same read keeps =
+keeps_read Keeps name status now keys entries at kept view same read keeps =
     subst (λ s. Keeps name s kept) view (subst (Keeps name status) (found_at (λ k. bytes_eq name k.now) keys entries ∙ sym (read ∙ ap (option_and_then (slice_get entries)) same)) keeps)
 
 -- a row without provisions is as none

@@ -1,33 +1,43 @@
 -- What packages give, gathered by name.
-use Rattle.std.proofs.Common.{◌≡◌, ℕ, ◌+◌, ◌<◌, zero, suc, Bool, true, false, not, cond, ◌||◌, List, [], ◌∷◌, ◌++◌, length, get_or, take, map, Option, Some, None, refl, sym, ap, ◌∙◌, arith, bytes_eq}
+use Rattle.std.proofs.Common.{◌≡◌, ℕ, ◌+◌, ◌<◌, zero, suc, Bool, true, false, not, cond, ◌||◌, List, [], ◌∷◌, ◌++◌, length, get_or, take, map, Option, Some, None, refl, sym, ap, ◌∙◌, arith, bytes_eq, subst, length-append}
 use Rattle.std.specs.Prelude.{filter, filter_map, option_map, slice_get, option_to_list, if◌then◌else◌}
 use Rattle.std.specs.Option.{is_none}
 use Rattle.std.specs.List.{count_by, cons_option}
 use Rattle.std.proofs.Math.Bool.{or-false, or-true}
-use Rattle.std.proofs.lemmas.List.{map-append, flat_map_more}
+use Rattle.std.proofs.lemmas.List.{map-append, flat_map_more, take_more, length-take-le}
 use Rattle.std.proofs.lemmas.List.Elements.{filter-append, filter_map-append}
 use Rattle.cudf_value.specs.Vpkgs.{PlainVpkg}
-use Rattle.cudf_index.specs.declared.index.entries.Entries.{Entries}
 use Rattle.cudf_index.specs.declared.index.gathered_names.Provision.{Provision}
 use Rattle.cudf_value.specs.declared.relop.Relop.{Relop}
 use Rattle.cudf_problem.specs.Documents.{is_empty}
 use Rattle.cudf_problem.specs.Universe.{PlainPackage}
 use Rattle.cudf_index.specs.Satisfaction.{Placed, members, entry_pair, unversioned_name, package_pairs, gives, gives_all_versions, numbers_of}
 use Rattle.cudf_problem.specs.Ids.{Id}
-use Rattle.cudf_index.specs.Working.Gathering.{provisions_of, own_entry, given_by, given_of, Completes, CompletesAt}
+use Rattle.cudf_index.specs.Working.Gathering.{provisions_of, own_entry, given_by, given_of, BothAt}
 use Rattle.cudf_index.proofs.MemberLemmas.{members_kept, members_left_out}
 use Rattle.cudf_index.proofs.CountLemmas.{count-cons, count-append}
 
 -- ---- rows that are completed in turn
 
-pub completes_push : (xs : List (List Provision)) (ys : List Entries) (x : List Provision) (y : Entries) → length ys ≡ length xs → ((k : ℕ) → CompletesAt (slice_get xs k) (slice_get ys k)) → Completes x y
-    → (k : ℕ) → CompletesAt (slice_get (xs ++ x ∷ []) k) (slice_get (ys ++ y ∷ []) k)
-completes_push [] [] x y same done more zero = more
-completes_push [] [] x y same done more (suc k) = tt
-completes_push [] (y' ∷ ys) x y same done more k = absurd (omega arith)
-completes_push (x' ∷ xs) [] x y same done more k = absurd (omega arith)
-completes_push (x' ∷ xs) (y' ∷ ys) x y same done more zero = done zero
-completes_push (x' ∷ xs) (y' ∷ ys) x y same done more (suc k) = completes_push xs ys x y (omega arith) (λ j. done (suc j)) more k
+module _ {R E : Type 0} (Keeps : R → E → Type 0) where
+  both_push : (xs : List R) (ys : List E) (x : R) (y : E) → length ys ≡ length xs → ((k : ℕ) → BothAt Keeps (slice_get xs k) (slice_get ys k)) → Keeps x y
+      → (k : ℕ) → BothAt Keeps (slice_get (xs ++ x ∷ []) k) (slice_get (ys ++ y ∷ []) k)
+  both_push [] [] x y same done more zero = more
+  both_push [] [] x y same done more (suc k) = tt
+  both_push [] (y' ∷ ys) x y same done more k = absurd (omega arith)
+  both_push (x' ∷ xs) [] x y same done more k = absurd (omega arith)
+  both_push (x' ∷ xs) (y' ∷ ys) x y same done more zero = done zero
+  both_push (x' ∷ xs) (y' ∷ ys) x y same done more (suc k) = both_push xs ys x y (omega arith) (λ j. done (suc j)) more k
+
+  -- one row more of those that there are
+  pub one_more : (rows : List R) (done now : List E) (i : ℕ) (row : R) (e : E) → i < length rows → length done ≡ i → ((k : ℕ) → BothAt Keeps (slice_get (take i rows) k) (slice_get done k))
+      → row ≡ get_or rows i row → Keeps row e → now ≡ done ++ e ∷ [] → (length now ≡ i + 1) × ((k : ℕ) → BothAt Keeps (slice_get (take (i + 1) rows) k) (slice_get now k))
+  one_more rows done now i row e inside len before is whole same = (
+    omega (arith, ap length same, length-append {A = E}),
+    λ k. subst (λ es. BothAt Keeps (slice_get (take (i + 1) rows) k) (slice_get es k)) (sym same)
+        (subst (λ rs. BothAt Keeps (slice_get rs k) (slice_get (done ++ e ∷ []) k)) (sym (take_more rows i row inside ∙ ap (λ r. take i rows ++ r ∷ []) (sym is)))
+        (both_push (take i rows) done row e (omega (arith, length-take-le i rows (omega arith))) before whole k)),
+  )
 
 -- each item of a row has a number or none
 pub numbers_and_none : (row : List Provision) → length (filter_map (λ g. g.number) row) + count_by (λ g. is_none g.number) row ≡ length row

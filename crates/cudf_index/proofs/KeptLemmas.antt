@@ -1,18 +1,29 @@
 -- What is kept of a name is what the status gives of it.
-use Rattle.std.proofs.Common.{◌≡◌, ℕ, List, map, Option, Some, None, sym, ap, ◌∙◌, arith, bytes_eq, subst, Bor}
-use Rattle.std.specs.Prelude.{filter_map, slice_get, option_and_then, position}
+use Rattle.std.proofs.Common.{◌≡◌, ℕ, zero, suc, Bool, true, false, cond, List, [], ◌∷◌, map, Option, Some, None, sym, ap, ◌∙◌, arith, bytes_eq, subst, Bor}
+use Rattle.std.specs.Prelude.{filter_map, slice_get}
 use Rattle.std.specs.Option.{is_none, is_some, IfSome}
 use Rattle.std.specs.List.{count_by, list_any}
 use Rattle.cudf_index.specs.declared.index.entries.Entries.{Entries}
 use Rattle.cudf_index.specs.declared.index.gathered_names.Provision.{Provision}
 use Rattle.cudf_index.specs.Satisfaction.{Placed}
 use Rattle.cudf_index.specs.Working.Kept.{Keeps, IsSole, found}
-use Rattle.cudf_index.specs.Working.Gathering.{row_items, given_of, sole_place, CompletesAt}
-use Rattle.cudf_index.proofs.FoundLemmas.{found_at}
+use Rattle.cudf_index.specs.Working.Gathering.{row_items, given_of, sole_place, BothAt, Completes, CompletesAt}
 use Rattle.cudf_index.proofs.GatheringLemmas.{numbers_given, names_given_all}
 use Rattle.cudf_index.proofs.SearchLemmas.{found_place}
 use Rattle.cudf_index.proofs.TreeLemmas.{sole_given}
 use Rattle.cudf_index.proofs.VersionLemmas.{version_given}
+
+-- what is at each place is at the place of a key
+pub both_found : {R E K : Type 0} (Same : R → E → Type 0) (test : K → Bool) (keys : List K) (rows : List R) (kept : List E) → ((k : ℕ) → BothAt Same (slice_get rows k) (slice_get kept k)) → BothAt Same (found test keys rows) (found test keys kept)
+both_found Same test [] rows kept whole = tt
+both_found Same test (k ∷ ks) [] [] whole = tt
+both_found Same test (k ∷ ks) [] (e ∷ es) whole = absurd (whole zero)
+both_found Same test (k ∷ ks) (r ∷ rs) [] whole = absurd (whole zero)
+both_found Same test (k ∷ ks) (r ∷ rs) (e ∷ es) whole = by (test k) (both_found Same test ks rs es (λ j. whole (suc j)))
+  where
+    by : (b : Bool) → BothAt Same (found test ks rs) (found test ks es) → BothAt Same (cond b (Some r) (found test ks rs)) (cond b (Some e) (found test ks es))
+    by true rest = whole zero
+    by false rest = rest
 
 module _ (f : List ℕ) where
   -- a package of the name, and only it, gives a version
@@ -39,15 +50,9 @@ module _ (f : List ℕ) where
     is_package = whole.is_package ∙ ap (list_any (λ g. g.is_version)) same ∙ sym (versions_given status);
   }
 
-  completes_found : (rows : List (List Provision)) (entries : List Entries) (o : Option ℕ) → ((k : ℕ) → CompletesAt (slice_get rows k) (slice_get entries k)) → CompletesAt (option_and_then (slice_get rows) o) (option_and_then (slice_get entries) o)
-  completes_found rows entries None whole = tt
-  completes_found rows entries (Some k) whole = whole k
-
   pub keeps_found : (status : List Placed) (keys : List (Bor (List ℕ))) (rows : List (List Provision)) (entries : List Entries) → ((k : ℕ) → CompletesAt (slice_get rows k) (slice_get entries k)) → row_items (found (λ k. bytes_eq f k.now) keys rows) ≡ given_of f status
       → Keeps f status (found (λ k. bytes_eq f k.now) keys entries)
   keeps_found status keys rows entries whole same =
       keeps_row status (found (λ k. bytes_eq f k.now) keys rows) (found (λ k. bytes_eq f k.now) keys entries)
-      (subst (λ o. CompletesAt o (found (λ k. bytes_eq f k.now) keys entries)) (sym (found_at (λ k. bytes_eq f k.now) keys rows))
-      (subst (CompletesAt (option_and_then (slice_get rows) (position (λ k. bytes_eq f k.now) keys))) (sym (found_at (λ k. bytes_eq f k.now) keys entries))
-      (completes_found rows entries (position (λ k. bytes_eq f k.now) keys) whole)))
+      (both_found Completes (λ k. bytes_eq f k.now) keys rows entries whole)
       same

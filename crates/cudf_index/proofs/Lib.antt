@@ -19,5 +19,9 @@ pub mod KeptLemmas
 pub mod PriceLemmas
 pub mod ShareLemmas
 pub mod SearchedLemmas
+pub mod GiverLemmas
+pub mod PairLemmas
+pub mod RunLemmas
+pub mod AddedLemmas
 mod SatisfactionExamples
 mod PriceExamples

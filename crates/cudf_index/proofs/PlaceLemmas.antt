@@ -46,7 +46,7 @@ abbrev pub Rising : List ℕ → Type 0
 Rising [] = Unit {0}
 Rising (x ∷ xs) = Rises x xs
 
-rising_rest : (x : ℕ) (xs : List ℕ) → Rises x xs → Rising xs
+pub rising_rest : (x : ℕ) (xs : List ℕ) → Rises x xs → Rising xs
 rising_rest x [] h = tt
 rising_rest x (y ∷ ys) h = h.1
 
@@ -82,7 +82,7 @@ pub rising_from : (xs : List ℕ) → IsStrictlyIncreasing xs → Rising xs
 rising_from [] up = tt
 rising_from (x ∷ xs) up = rises_from x xs up
 
-not_there : (p low : ℕ) (xs : List ℕ) → Rises low xs → p ≤ low → has xs p ≡ false
+pub not_there : (p low : ℕ) (xs : List ℕ) → Rises low xs → p ≤ low → has xs p ≡ false
 not_there p low [] up h = refl
 not_there p low (x ∷ xs) up h = ap (λ b. b || has xs p) (ne_eqb x p (λ e. omega (arith, up.0))) ∙ not_there p x xs up.1 (omega (arith, up.0))
 

@@ -52,7 +52,7 @@ twice place places = by (ends_in place places) refl
 
 -- ---- a row
 
-any_number : (bound : Option (Relop × ℕ)) (row : List Provision) → list_any (passes (Number bound)) row ≡ list_any (meets bound) (filter_map (λ g. g.number) row)
+pub any_number : (bound : Option (Relop × ℕ)) (row : List Provision) → list_any (passes (Number bound)) row ≡ list_any (meets bound) (filter_map (λ g. g.number) row)
 any_number bound [] = refl
 any_number bound (g ∷ gs) = ap (λ b. option_map_or (meets bound) g.number false || b) (any_number bound gs) ∙ by g.number (filter_map (λ h. h.number) gs)
   where
@@ -188,7 +188,7 @@ named_tells f p = sym (found_place (λ (g : Provision). g.place) (λ g. g.is_ver
     by true = refl
     by false = refl
 
-number_tells : (f : List ℕ) (bound : Option (Relop × ℕ)) (p : Placed) → list_any (passes (Number bound)) (given_by f p) ≡ gives_number f bound p
+pub number_tells : (f : List ℕ) (bound : Option (Relop × ℕ)) (p : Placed) → list_any (passes (Number bound)) (given_by f p) ≡ gives_number f bound p
 number_tells f bound p =
     any_number bound (given_by f p) ∙ ap (λ row. list_any (meets bound) (filter_map (λ g. g.number) row)) (sym (append-nil (given_by f p)))
     ∙ ap (list_any (meets bound)) (sym (numbers_given f (p ∷ [])))

@@ -1,3 +1,4 @@
 pub mod Members
 pub mod Prices
 pub mod Places
+pub mod Counts

@@ -13,8 +13,11 @@ ghost use Rattle.cudf_index.specs.Working.Gathering.{row_of, given_of, AreFilled
 ghost use Rattle.cudf_index.specs.Working.Kept.{Keeps};
 ghost use Rattle.cudf_index.specs.Working.Members.{member_view};
 
+pub(crate) mod counts;
 mod entries;
+mod extents;
 mod gathered_names;
+mod givers;
 mod member;
 pub(crate) mod metered;
 mod named_trees;
@@ -26,6 +29,7 @@ mod share;
 mod sorted;
 mod tree;
 mod union;
+mod unsorted;
 mod wanted;
 
 use crate::steps::Steps;

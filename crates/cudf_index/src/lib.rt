@@ -6,6 +6,7 @@ pub mod laws;
 mod steps;
 
 pub use index::Index;
+pub use index::counts::Counts;
 pub use index::metered::Metered;
 pub use index::providers::Providers;
 pub use steps::Steps;

@@ -226,11 +226,4 @@ impl Cnf {
     {
         self.clauses.get(number as usize - 1)
     }
-
-    /// Takes all clauses out, and keeps the memory.
-    pub fn clear(&mut self)
-        ensures { self.new ≡ record { variables = self.old.variables; clauses = [] } }
-    {
-        self.clauses.clear();
-    }
 }

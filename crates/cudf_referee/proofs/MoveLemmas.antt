@@ -226,11 +226,11 @@ moved-on can allowed old None new moves = record { on = λ h. tt; keeps = tt; re
 moved-on can allowed old (Some i) new moves = record { on = λ h. (allowed new, tt, omega (arith, ap length moves.gives)); keeps = allowed new; rests = λ h. tt }
 
 -- nothing is found exactly where nothing is left
-pub moved-none : (old : Walking) (r : Option Instance) (new : Walking) (none : Bool) → Moves old (option_map instance_view r) new → is_some r ≡ not none → none ≡ is_empty (left old)
-moved-none old None new true moves h = ap is_empty (sym moves.gives.0)
-moved-none old None new false moves h = absurd (cc h)
-moved-none old (Some i) new true moves h = absurd (cc h)
-moved-none old (Some i) new false moves h = ap is_empty (sym moves.gives)
+pub moved_none : (old : Walking) (r : Option Instance) (new : Walking) (none : Bool) → Moves old (option_map instance_view r) new → is_some r ≡ not none → none ≡ is_empty (left old)
+moved_none old None new true moves h = ap is_empty (sym moves.gives.0)
+moved_none old None new false moves h = absurd (cc h)
+moved_none old (Some i) new true moves h = absurd (cc h)
+moved_none old (Some i) new false moves h = ap is_empty (sym moves.gives)
 
 -- ---- what is left after a stop that was come to
 

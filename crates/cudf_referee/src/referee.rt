@@ -102,6 +102,7 @@ fn own_place(part: Part) -> Option<u64>
 }
 
 /// Whether no instance is left.
+#[tactic(auto, using(crate::proofs::MoveLemmas::moved_none))]
 fn has_none(mut instances: Instances<'_, '_, '_>) -> bool
     ensures { result ≡ is_empty (left instances.entry) }
 {
@@ -217,6 +218,7 @@ impl<'p, 't> Referee<'p, 't> {
     }
 
     /// The walk over the violated instances, in key order. Their keys can be written.
+    #[tactic(auto, using(std::proofs::lemmas::Grind::common_steps))]
     pub fn instances(&self) -> Instances<'_, 'p, 't>
         ensures walk { result ≡ record { judged = self.entry.now; position = at_start; steps = 0 } }
         ensures left { left result ≡ listing self.entry.now }

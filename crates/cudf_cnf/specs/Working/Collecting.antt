@@ -1,19 +1,14 @@
 -- Clauses that a collector has taken.
-use Rattle.std.specs.Prelude.{◌≡◌, ◌+◌, ◌<◌, ◌≤◌, ℕ, Bool, true, false, List, length, Option, Some, None}
+use Rattle.std.specs.Prelude.{◌≡◌, ◌<◌, ◌≤◌, ℕ, Bool, true, false, List, length, Option, Some, None}
 use Rattle.cudf_problem.specs.Universe.{PlainProblem}
 use Rattle.cudf_cnf.specs.declared.collector.Collector.{Collector}
 use Rattle.cudf_cnf.specs.Cnf.{Keyed, cnf}
 use Rattle.cudf_cnf.specs.Encodings.{PlainKeyedClauses}
 
--- it has taken these: they are counted, and held if all are
-pub record HasTaken (xs : List Keyed) (c : Collector) : Type 0 where
-  pub counted : c.dropped + length c.clauses.clauses ≡ length xs
-  pub held : c.holds ≡ true → c.clauses.clauses ≡ xs
-
--- and there is room for them
+-- it holds these, and there is room for them
 pub record Received (xs : List Keyed) (c : Collector) : Type 0 where
-  pub taken : HasTaken xs c
-  pub fits : length xs ≤ c.room
+  pub held : c.clauses.clauses ≡ xs
+  pub fits : length c.clauses.clauses ≤ c.room
 
 -- whether there was
 abbrev pub Outcome : Bool → List Keyed → Collector → Type 0
@@ -24,7 +19,6 @@ Outcome false xs c = c.room < length xs
 pub record SameFrame (old new : Collector) : Type 0 where
   pub places : new.clauses.places ≡ old.clauses.places
   pub room : new.room ≡ old.room
-  pub holds : new.holds ≡ old.holds
 
 -- all clauses of the problem are held, and there is room for so many; or there isn't
 abbrev pub IsHeld : PlainProblem → ℕ → Option PlainKeyedClauses → Type 0

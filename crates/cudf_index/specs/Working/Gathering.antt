@@ -59,8 +59,13 @@ pub record Completes (row : List Provision) (kept : Entries) : Type 0 where
   pub sole : kept.sole ≡ sole_place (map (λ g. g.place) row)
   pub is_package : kept.is_package ≡ list_any (λ g. g.is_version) row
 
+-- both are there and the one is what is kept of the other, or neither is
+abbrev pub BothAt : {R E : Type 0} → (R → E → Type 0) → Option R → Option E → Type 0
+BothAt Keeps None None = Unit
+BothAt Keeps (Some row) (Some kept) = Keeps row kept
+BothAt Keeps None (Some kept) = ⊥
+BothAt Keeps (Some row) None = ⊥
+
 -- at each place, both or neither
 abbrev pub CompletesAt : Option (List Provision) → Option Entries → Type 0
-CompletesAt None None = Unit
-CompletesAt (Some row) (Some kept) = Completes row kept
-CompletesAt _ _ = ⊥
+CompletesAt row kept = BothAt Completes row kept

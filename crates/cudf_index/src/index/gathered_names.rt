@@ -1,5 +1,5 @@
 //! What the packages of a status give, gathered by name.
-ghost use Rattle.std.specs.Prelude.{◌≡◌, ◌<◌, ℕ, List, Some, [], ◌∷◌, ◌++◌, ◌||◌, map, length, false, bytes_eq, cond, OnOk, IfOk, slice_get, option_to_list};
+ghost use Rattle.std.specs.Prelude.{◌≡◌, ◌<◌, ℕ, List, Some, [], ◌∷◌, ◌++◌, ◌||◌, map, filter_map, length, false, bytes_eq, cond, OnOk, IfOk, slice_get, option_to_list};
 ghost use Rattle.std.specs.List.{position_or_len, list_any};
 ghost use Rattle.cudf_value.specs.Promises.Views.{list_view};
 ghost use Rattle.cudf_index.specs.Working.Gathering.{row_of, row_items, has_row, AreFilled, given_by, provisions_of, sole_place, Completes, CompletesAt};
@@ -152,9 +152,7 @@ pub(crate) fn completed(alloc: Global, row: &[Provision]) -> Result<Entries, All
         return Ok(alone(alloc, *provision));
     }
     let mut numbers = Vec::with_capacity(alloc, row.len())?;
-    for provision in row {
-        push_some(&mut numbers, provision.number)?;
-    }
+    put_numbers(row, &mut numbers)?;
     let unversioned = row.len() - numbers.len();
     Ok(Entries {
         numbers: Sorted::new(numbers),
@@ -162,6 +160,17 @@ pub(crate) fn completed(alloc: Global, row: &[Provision]) -> Result<Entries, All
         sole: sole_place(row),
         is_package: any_version(row),
     })
+}
+
+/// Puts the numbers of the provisions into the list, in place of what was there.
+pub(crate) fn put_numbers(row: &[Provision], numbers: &mut Vec<u64>) -> Result<(), AllocError>
+    ensures { OnOk result (numbers.new.items ≡ filter_map (λ g. g.number) row.now) }
+{
+    numbers.clear();
+    for provision in row {
+        push_some(numbers, provision.number)?;
+    }
+    Ok(())
 }
 
 /// What is kept of a row of one provision, as most rows are. It takes no memory.
@@ -209,7 +218,8 @@ fn any_version(row: &[Provision]) -> bool
     row.iter().any(|provision| provision.is_version)
 }
 
-fn push_some(numbers: &mut Vec<u64>, number: Option<u64>) -> Result<(), AllocError>
+/// Adds the number after the others, if there is one.
+pub(crate) fn push_some(numbers: &mut Vec<u64>, number: Option<u64>) -> Result<(), AllocError>
     ensures { OnOk result (numbers.new.items ≡ numbers.old.items ++ option_to_list number) }
 {
     match number {

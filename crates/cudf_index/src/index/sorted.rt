@@ -1,7 +1,7 @@
 //! Numbers in ascending order, to be counted.
 ghost use Rattle.std.specs.Prelude.{◌≡◌, ◌==◌, ◌<◌, ◌≤◌, ◌+◌, ◌*◌, ℕ, Bool, Some, [], ◌∷◌, nat_lt, nat_le, length, slice_index_or};
 ghost use Rattle.std.specs.List.{count_by};
-ghost use Rattle.std.specs.List.Sorted.{IsNonDecreasing};
+ghost use Rattle.std.specs.List.Sorted.{IsNonDecreasing, IsPermutation};
 ghost use Rattle.cudf_value.specs.declared.relop.Relop.TheVariants.{Eq};
 ghost use Rattle.cudf_value.specs.Vpkgs.{meets};
 ghost use Rattle.cudf_index.specs.Promises.Members.{IsLeast, IsGreatest};
@@ -55,6 +55,7 @@ impl Sorted {
     pub(crate) fn new(numbers: Vec<u64>) -> Self
         ensures counts { (p : ℕ → Bool) → count_by p result ≡ count_by p numbers.items }
         ensures ascending { IsNonDecreasing result }
+        ensures permutation { IsPermutation numbers.items result }
     {
         let mut numbers = numbers;
         numbers.sort_unstable();
@@ -156,10 +157,18 @@ impl Sorted {
         Some(self.at(len - 1, steps))
     }
 
-    fn len(&self) -> usize
+    /// How many there are.
+    pub(crate) fn len(&self) -> usize
         ensures { result ≡ length self.now }
     {
         self.numbers.as_slice().len()
+    }
+
+    /// The numbers, ascending.
+    pub(crate) fn as_slice(&self) -> &[u64]
+        ensures { result.now ≡ self.now }
+    {
+        self.numbers.as_slice()
     }
 
     fn equal(&self, number: u64, steps: &mut Steps) -> usize

@@ -5,7 +5,7 @@ ghost use Rattle.std.specs.List.Sorted.{IsStrictlyIncreasing};
 ghost use Rattle.cudf_value.specs.Promises.Views.{atom_view, clause_view, vpkg_view};
 ghost use Rattle.cudf_index.specs.Promises.Places.{at, places_where};
 ghost use Rattle.cudf_index.specs.Satisfaction.{meets_alone, meets_clause_alone, satisfies};
-ghost use Rattle.cudf_index.specs.Working.Places.{HoldsSame, PassesOrAdds, has, meets_atom_alone};
+ghost use Rattle.cudf_index.specs.Working.Places.{HoldsSame, PassesOrAdds, has, meets_atom_alone, passes_at};
 ghost use Rattle.cudf_index.specs.Working.Questions.{AnswersMore, PassesOrAsks, will_have};
 
 use crate::index::Index;
@@ -146,8 +146,31 @@ impl<'p, 't> Index<'p, 't> {
         Ok(Some(*question))
     }
 
-    /// Whether the package at this place alone satisfies the vpkg.
-    fn satisfies_at(&self, vpkg: &Vpkg<'_>, place: u64) -> bool
+    /// Whether the package at this place, from 1, alone satisfies the clause; not where the status doesn't hold the place.
+    pub fn satisfies_clause_at(&self, clause: &Clause<'_>, place: u64) -> bool
+        ensures { result ≡ list_any (λ q. q.0 == place) (filter (meets_clause_alone (clause_view clause.now)) self.now) }
+    {
+        for atom in clause.atoms() {
+            if self.satisfies_atom_at(&atom, place) {
+                return true;
+            }
+        }
+        false
+    }
+
+    /// The same of an atom.
+    fn satisfies_atom_at(&self, atom: &Atom<'_>, place: u64) -> bool
+        ensures { result ≡ passes_at (meets_atom_alone (atom_view atom.now)) place self.now }
+    {
+        match atom {
+            Atom::Yes => self.member(place).is_some(),
+            Atom::No => false,
+            Atom::Is(vpkg) => self.satisfies_at(vpkg, place),
+        }
+    }
+
+    /// Whether the package at this place, from 1, alone satisfies the vpkg; not where the status doesn't hold the place.
+    pub fn satisfies_at(&self, vpkg: &Vpkg<'_>, place: u64) -> bool
         ensures { result ≡ satisfies (at place self.now) (vpkg_view vpkg.now) }
     {
         let own = self.own(vpkg, place, &mut Steps::new());
@@ -179,8 +202,8 @@ impl<'p, 't> Index<'p, 't> {
     }
 }
 
-/// Puts the places in ascending order, each once.
-fn make_unique(places: &mut Vec<u64>)
+/// Puts the numbers in ascending order, each once.
+pub(crate) fn make_unique(places: &mut Vec<u64>)
     ensures rises { IsStrictlyIncreasing places.new.items }
     ensures same { HoldsSame places.old.items places.new.items }
 {

@@ -1,17 +1,16 @@
-use Rattle.std.proofs.Common.{◌≡◌, List, ◌++◌}
+use Rattle.std.proofs.Common.{◌≡◌, ◌≤◌, ◌++◌, length}
 use Rattle.std.specs.Prelude.{All}
 use Rattle.std.specs.List.{flat_map}
 use Rattle.cudf_referee.specs.Promises.ProblemInstances.{instances_left}
 use Rattle.cudf_referee.specs.Promises.Where.{IsWhere}
-use Rattle.cudf_cnf.specs.Cnf.{Keyed, cnf, keyed_clauses}
-use Rattle.cudf_cnf.specs.Working.Collecting.{Received, SameFrame}
+use Rattle.cudf_cnf.specs.Cnf.{cnf, keyed_clauses}
+use Rattle.cudf_cnf.specs.Working.Collecting.{SameFrame}
 use Rattle.cudf_cnf.proofs.encoding.fill.Given as goal
 
 abbrev pub invariant-loop-instance : goal.invariant-loop-instance
 invariant-loop-instance l = record {
-  done : List Keyed;
-  received : Received done l.to;
-  left : done ++ flat_map (keyed_clauses l.encoder.problem.now) (instances_left l.instance-iterator) ≡ cnf l.encoder.problem.now;
+  fits : length l.to.clauses.clauses ≤ l.to.room;
+  left : l.to.clauses.clauses ++ flat_map (keyed_clauses l.encoder.problem.now) (instances_left l.instance-iterator) ≡ cnf l.encoder.problem.now;
   each : All (IsWhere l.encoder.problem.now) (instances_left l.instance-iterator);
   same : SameFrame l.initial.to l.to;
 }

@@ -14,7 +14,7 @@ pub returns-then-branch : goal.returns-then-branch
 returns-then-branch c =
     let places : c.new-to.result.clauses.places ≡ length c.args.encoder.now.problem.now.packages = omega (arith, c.new-to.ensures.places, ap (λ (ps : List PlainPackage). length ps) c.packages.ensures.packages, length-map c.packages.result.now package_view) in
     all_held c.args.encoder.now.problem.now c.args.room c.fill.new.to (had_room c.in_ok-fill.field-0 (cnf c.args.encoder.now.problem.now) c.fill.new.to c.if-branch.true c.in_ok-fill.ensures.outcome)
-    (c.fill.ensures.same.room ∙ c.new-to.ensures.room) (c.fill.ensures.same.holds ∙ c.new-to.ensures.holds) (c.fill.ensures.same.places ∙ places)
+    (c.fill.ensures.same.room ∙ c.new-to.ensures.room) (c.fill.ensures.same.places ∙ places)
 
 pub returns : goal.returns
 returns c =

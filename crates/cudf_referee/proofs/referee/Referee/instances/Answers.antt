@@ -1,17 +1,10 @@
-use Rattle.std.proofs.Common.{subst, arith}
+use Rattle.std.proofs.Common.{subst}
 use Rattle.std.specs.Prelude.{All}
-use Rattle.std.proofs.lemmas.Grind.{common_steps}
 use Rattle.cudf_job.specs.Promises.Keys.{IsWritable}
 use Rattle.cudf_referee.specs.Proposals.{Proposal}
 use Rattle.cudf_referee.specs.Violations.{listing}
 use Rattle.cudf_referee.proofs.WritableLemmas.{listing_written}
 use Rattle.cudf_referee.proofs.referee.Referee.instances.Goals as goal
-
-pub returns-clause-walk : goal.returns-clause-walk
-returns-clause-walk c = grind (arith, common_steps)
-
-pub returns-clause-left : goal.returns-clause-left
-returns-clause-left c = grind (arith, common_steps)
 
 pub returns-clause-written : goal.returns-clause-written
 returns-clause-written c =
