@@ -2,7 +2,7 @@
 use crate::chain::{Asks, judge};
 use crate::table::{Answer, expect};
 use cudf_document::{Problem, Solution, Status, initial};
-use cudf_index::{Index, Providers, laws};
+use cudf_index::{Counts, Index, Providers, laws};
 use cudf_value::{Relop, Vpkg};
 use std::alloc::Global;
 
@@ -88,4 +88,53 @@ impl Asks for Makers {
 #[test]
 fn providers(rt: HostRuntime) {
     expect(&rt, judge(rt.alloc(), MAKERS, b"", &Makers));
+}
+
+/// Of `f` the first package gives two numbers, the second all versions, the third one number twice.
+const GIVERS: &[u8] =
+    b"package: a\nversion: 1\nprovides: f = 1, f = 3\ninstalled: true\n\npackage: a\nversion: 2\nprovides: f\ninstalled: true\n\npackage: a\nversion: 3\nprovides: f = 3, f = 3\ninstalled: true\n\npackage: f\nversion: 2\ninstalled: true\n\nrequest: r\n";
+
+/// A name, a bound of it, and how many packages alone meet it.
+type Count = (&'static str, Option<(Relop, u64)>, u128);
+
+const MEETING: [Count; 10] = [
+    ("a", None, 3),
+    ("f", None, 4),
+    ("f", Some((Relop::Eq, 3)), 3),
+    ("f", Some((Relop::Neq, 3)), 3),
+    ("f", Some((Relop::Geq, 3)), 3),
+    ("f", Some((Relop::Gt, 3)), 1),
+    ("f", Some((Relop::Leq, 1)), 2),
+    ("f", Some((Relop::Lt, 2)), 2),
+    ("f", Some((Relop::Lt, 1)), 0),
+    ("g", None, 0),
+];
+
+fn is_counted(counts: &Counts<'_, '_, '_>, row: &Count) -> bool {
+    let vpkg = Vpkg {
+        name: row.0,
+        bound: row.1,
+    };
+    counts.meeting(&vpkg) == row.2
+}
+
+/// Asks how many packages of the initial status answer.
+struct Givers;
+
+impl Asks for Givers {
+    fn of_problem(&self, alloc: Global, problem: &Problem<'_>) -> Answer {
+        let status = initial(alloc, problem)?;
+        let index = Index::build(alloc, problem, &status)?;
+        let counts = index.counts(alloc)?;
+        Ok(
+            MEETING.iter().all(|row| is_counted(&counts, row))
+                && counts.giving("f", Some((Relop::Lt, 3))) == 2
+                && (counts.differing("a"), counts.differing("f")) == (3, 4),
+        )
+    }
+}
+
+#[test]
+fn givers(rt: HostRuntime) {
+    expect(&rt, judge(rt.alloc(), GIVERS, b"", &Givers));
 }
