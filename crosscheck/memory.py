@@ -15,6 +15,7 @@ usage: memory.py PROGRAM [TESTS]
   - processor time: for twice the input 3 times, where a square takes 4; the least of three runs of both in turn, and the
     middle of further rounds where that is too much
 - Inputs of 268,435,456 bytes, with 3 bytes of memory for each byte and 1 MB; and of one byte more, which is too long.
+- Each place in the sources that makes an AllocError, and doesn't pass one on, has a reason in MADE.
 - TESTS is the executable of the tests of cudf_tests (`rt test` leaves it in out/). Its tests in `memory` make calls
   that take memory, and say where one answered that a growth was refused: each is refused as above. At their ends they
   hold no more blocks than `memory::none`, which takes no memory, and passes with every growth refused.
@@ -24,6 +25,7 @@ needs shim.c is left out. For Linux and glibc.
 """
 import contextlib
 import errno
+import glob
 import itertools
 import os
 import re
@@ -44,6 +46,27 @@ SMALL_STACK = limit(resource.RLIMIT_STACK, 128 << 10)
 INVALID_ARGUMENTS, UNREAD, NO_MEMORY = 4, 5, 6
 NOT_LOADED = (127, -signal.SIGKILL, "OSError")
 NO_ROOM, NO_ROOM_FOR_ARGUMENTS, UNMET = map(TABLE.said, ("{no room}", "{no room for words}", "{unmet}"))
+
+# ---- where the sources say that a growth was refused
+
+MADE = {
+    "cudf_better/src/definitions.rt": "a clause of a variable that isn't there: never",
+    "cudf_better/src/items.rt": "a growth was refused; what was half added is taken out",
+    "cudf_cnf/src/clauses.rt": "a growth was refused; what was half added is taken out",
+    "cudf_command_line/src/usage.rt": "the parser said so",
+    "cudf_lrat/src/checker.rt": "the clauses and steps are 4294967295; these take some 100 GB",
+    "cudf_lrat/src/cnf.rt": "the clauses are 4294967295; callers count them before",
+    "cudf_lrat/src/steps.rt": "the clauses and steps are 4294967295; these take some 100 GB",
+}
+
+
+def made_errors(trial):
+    found = []
+    for path in sorted(glob.glob(f"{ROOT}/crates/*/src/**/*.rt", recursive=True)):
+        with open(path, encoding="utf-8") as file:
+            found += [os.path.relpath(path, f"{ROOT}/crates")] * file.read().count("Err(AllocError)")
+    trial.same("where an AllocError is made", found, sorted(MADE))
+
 
 # ---- growths that are refused
 
@@ -280,5 +303,5 @@ def under_shim(trial):
 
 
 if __name__ == "__main__":
-    tests = (files, endless, limits, *[under_shim] * bool(shutil.which("gcc")))
+    tests = (files, made_errors, endless, limits, *[under_shim] * bool(shutil.which("gcc")))
     start(__doc__, *tests, counts=(1, 2), files=2, make=shim.Trial)
