@@ -135,6 +135,6 @@ impl Asks for Givers {
 }
 
 #[test]
-fn givers(rt: HostRuntime) {
+fn counted(rt: HostRuntime) {
     expect(&rt, judge(rt.alloc(), GIVERS, b"", &Givers));
 }
