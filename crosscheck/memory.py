@@ -52,6 +52,7 @@ NO_ROOM, NO_ROOM_FOR_ARGUMENTS, UNMET = map(TABLE.said, ("{no room}", "{no room 
 MADE = {
     "cudf_better/src/definitions.rt": "a clause of a variable that isn't there: never",
     "cudf_better/src/items.rt": "a growth was refused; what was half added is taken out",
+    "cudf_check/src/judging.rt": "a growth was refused; the error is of another type",
     "cudf_cnf/src/clauses.rt": "a growth was refused; what was half added is taken out",
     "cudf_command_line/src/usage.rt": "the parser said so",
     "cudf_lrat/src/checker.rt": "the clauses and steps are 4294967295; these take some 100 GB",
@@ -64,7 +65,8 @@ def made_errors(trial):
     found = []
     for path in sorted(glob.glob(f"{ROOT}/crates/*/src/**/*.rt", recursive=True)):
         with open(path, encoding="utf-8") as file:
-            found += [os.path.relpath(path, f"{ROOT}/crates")] * file.read().count("Err(AllocError)")
+            made_here = re.findall(r"(?:Err|ReadError::Memory)\(AllocError\)", file.read())
+        found += [os.path.relpath(path, f"{ROOT}/crates")] * len(made_here)
     trial.same("where an AllocError is made", found, sorted(MADE))
 
 
