@@ -8,6 +8,8 @@ usage: memory.py PROGRAM [TESTS]
 - By shim.c each growth of memory (a call of malloc, calloc or realloc) is refused in turn, alone and with all later
   ones, in each command of refused.txt: status 6, nothing on standard output, no read after it, and the message that
   says if a file had been opened. The answer may be right if memory was to be given back, or if arguments are invalid.
+  There are at most as many growths as refused.txt says, and a tenth more: nothing is looked up or built twice, or for
+  nothing.
 - The inputs of growth.txt, in a size and in twice that, with a stack of 128 KB: the whole answer. At most are wanted
   - growths: one for each byte of the input, and 500; for twice the input 2.2 times as many, and 500
   - bytes held at once: 64 for each byte of the input, or 4 after an error, and 1 MB; none at the end
@@ -50,16 +52,19 @@ NO_ROOM, NO_ROOM_FOR_ARGUMENTS, UNMET = map(TABLE.said, ("{no room}", "{no room 
 # ---- where the sources say that a growth was refused
 
 TESTS = f"{ROOT}/crates/cudf_tests/src/*.rt"
-MADE = {
-    "cudf_better/src/definitions.rt": "a clause of a variable that isn't there: never",
-    "cudf_better/src/items.rt": "a growth was refused; what was half added is taken out",
-    "cudf_check/src/judging.rt": "a growth was refused; the error is of another type",
-    "cudf_cnf/src/clauses.rt": "a growth was refused; what was half added is taken out",
-    "cudf_command_line/src/usage.rt": "the parser said so",
-    "cudf_lrat/src/checker.rt": "the clauses and steps are 4294967295; these take some 100 GB",
-    "cudf_lrat/src/cnf.rt": "the clauses are 4294967295; callers count them before",
-    "cudf_lrat/src/steps.rt": "the clauses and steps are 4294967295; these take some 100 GB",
-}
+UNDONE = "a growth was refused; what was half added is taken out"
+MANY_STEPS = "the clauses and steps are 4294967295; these take some 100 GB"
+MADE = [
+    ("cudf_better/src/definitions.rt", "a clause of a variable that isn't there: never"),
+    ("cudf_better/src/items.rt", UNDONE),
+    ("cudf_check/src/judging.rt", "a growth was refused; the error is of another type"),
+    ("cudf_cnf/src/clauses.rt", UNDONE),
+    ("cudf_command_line/src/usage.rt", "the parser said so"),
+    ("cudf_lrat/src/checker.rt", MANY_STEPS),
+    ("cudf_lrat/src/cnf.rt", UNDONE),
+    ("cudf_lrat/src/cnf.rt", "the clauses are 4294967295; callers count them before"),
+    ("cudf_lrat/src/steps.rt", MANY_STEPS),
+]
 
 
 def made_errors(trial):
@@ -68,7 +73,7 @@ def made_errors(trial):
         with open(path, encoding="utf-8") as file:
             made_here = re.findall(r"(?:Err|ReadError::Memory)\(AllocError\)", file.read())
         found += [os.path.relpath(path, f"{ROOT}/crates")] * len(made_here)
-    trial.same("where an AllocError is made", found, sorted(MADE))
+    trial.same("where an AllocError is made", found, [path for path, _ in MADE])
 
 
 # ---- growths that are refused
@@ -99,14 +104,15 @@ def in_turn(shimmed, words):
 
 
 def refuse_each(trial, name, words, is_refused, is_right):
-    """Each run has to end as refused, or with the right answer. Returns the messages of those that were refused."""
+    """Each run has to end as refused, or with the right answer. Returns the messages of those that were refused, and how
+    many growths there were."""
     messages = set()
     for number, later, ended in in_turn(trial.shim, words):
         refused = bool(ended[3]) and is_refused(ended)
         messages |= {ended[2].decode()} if refused else set()
         trial.same(f"{name}: growth {number}, later ones {later}", refused or is_right(ended, later) or ended, True)
     print(f"{name}: {number - 1} growths")
-    return messages
+    return messages, number - 1
 
 
 def is_refused(ended, reads_files):
@@ -133,11 +139,13 @@ def refused_commands(trial, case):
         usual, calls, _ = trial.shim.run(words)
         has_read = any(it.call == "read" and it.name in words for it in calls)
         trial.same(f"{command.words}: with memory", (usual.status, has_read), (command.status, reads_files))
-        messages = refuse_each(
+        messages, growths = refuse_each(
             trial, command.words, words, lambda ended: is_refused(ended, reads_files),
             lambda ended, later: is_right(ended, later, usual),
         )
         trial.same(f"{command.words}: messages", messages, {NO_ROOM_FOR_ARGUMENTS, *[NO_ROOM] * reads_files})
+        most = 1.1 * int(inputs.text_of(command.report[0]))
+        trial.same(f"{command.words}: at most {most:.0f} growths", growths <= most or growths, True)
 
 
 def refused_calls(trial):

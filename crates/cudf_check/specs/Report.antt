@@ -223,7 +223,7 @@ clause_line literals = line (flat_map literal_text literals ++ codes "0")
 
 -- clauses in DIMACS, whose first variables are packages
 abbrev pub dimacs : List PlainPackage → PlainCnf → List ℕ
-dimacs packages cnf = flat_map package_comment (enumerate_from 1 packages) ++ header_line cnf.variables (length cnf.clauses) ++ flat_map clause_line cnf.clauses
+dimacs packages formula = flat_map package_comment (enumerate_from 1 packages) ++ header_line formula.variables (length formula.clauses) ++ flat_map clause_line formula.clauses
 
 -- the clauses of a problem over its packages
 abbrev pub rules_of : PlainProblem → PlainCnf

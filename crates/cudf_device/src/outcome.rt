@@ -8,7 +8,7 @@ use thiserror::Error;
 #[derive(Clone, Copy, PartialEq, Eq)]
 pub enum Outcome {
     /// The proposed status is a solution, or the problem has no fault; of a ranking, at least one is a solution; of a
-    /// proof, it shows that there is none.
+    /// CNF, it is written; of a proof, it shows that there is no solution, or no better one.
     Yes,
     /// The proposed status isn't a solution; of a ranking, none is, and not all say FAIL; of a proof, it has a fault.
     No,
@@ -16,7 +16,7 @@ pub enum Outcome {
     Faulty,
     /// The solution says that there is none; of a ranking, each says so, or there is none to rank.
     Fail,
-    /// The problem has more packages or CNF clauses than 4294967295. Nothing was written.
+    /// The CNF would have more than 4294967295 clauses or 2147483647 variables. Nothing was written.
     TooLarge,
 }
 

@@ -45,8 +45,8 @@ use std::alloc::{AllocError, Global};
 use std::marker::Model;
 use wanted::Wanted;
 
-/// The packages of a status, to be asked what they give and satisfy. Places are from 1, and the bounds of vpkgs are
-/// taken to be at least 1, as readers give them (CUDF 2.0, installations and features).
+/// The packages of a status, to be asked what they give and satisfy (CUDF 2.0, installations and features). Places are
+/// from 1.
 ///
 /// Contracts see each package beside its place in the universe, in the order of the places.
 #[derive(Drop)]

@@ -1,5 +1,6 @@
 //! Literals, and clauses of them: a formula in conjunctive normal form.
-ghost use Rattle.std.specs.Prelude.{◌≡◌, ◌<◌, ◌≤◌, ◌++◌, ◌∷◌, [], ◌^◌, ◌↔◌, All, OnOk, OnErr, length, slice_index_or, IsTrue};
+ghost use Rattle.std.specs.Prelude.{◌≡◌, ◌<◌, ◌≤◌, ◌++◌, ◌∷◌, [], ◌^◌, ◌↔◌, All, OnOk, OnErr, length, slice_index_or, slice_range, IsTrue};
+ghost use Rattle.std.specs.List.{flat_map};
 
 use std::alloc::{AllocError, Global};
 use std::marker::Model;
@@ -48,6 +49,8 @@ pub struct Lists<T> {
     items: Vec<T>,
     spans: Vec<Span>,
     ghost inside: { All (λ s. (s.start ≤ s.end) × (s.end ≤ length items.items)) spans.items },
+    // No memory is held but for what is in a list.
+    ghost whole: { flat_map (λ s. slice_range items.items s.start s.end) spans.items ≡ items.items },
 }
 
 impl<T: Copy> Lists<T> {
@@ -82,7 +85,10 @@ impl<T: Copy> Lists<T> {
         let start = self.items.len();
         self.items.extend_from_slice(list)?;
         let end = self.items.len();
-        self.spans.push(Span { start, end })?;
+        if self.spans.push(Span { start, end }).is_err() {
+            self.items.truncate(start);
+            return Err(AllocError);
+        }
         Ok(())
     }
 

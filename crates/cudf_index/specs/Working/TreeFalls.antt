@@ -8,4 +8,4 @@ use Rattle.cudf_index.specs.Working.Trees.{provisions, Holds}
 
 pub depth_le-length : (n : Node) → Holds n → max (deep-Node n) 0 ≤ length (provisions n)
 depth_le-length (Few row) h = omega arith
-depth_le-length (Halves entries front back) h = omega (arith, length-append front.value back.value, h.front_some, h.back_some)
+depth_le-length (Halves entries front back) h = omega (arith, length-append front.value back.value, h.front_some, h.even)

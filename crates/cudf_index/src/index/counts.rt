@@ -14,8 +14,8 @@ use cudf_value::{Relop, Vpkg};
 use std::alloc::{AllocError, Global};
 use std::marker::Model;
 
-/// The packages of a status, to be asked how many of them answer. A question costs a look-up by name and two searches.
-/// The bounds of vpkgs are taken to be at least 1, as readers give them (CUDF 2.0, installations and features).
+/// The packages of a status, to be asked how many of them answer (CUDF 2.0, installations and features). A question costs
+/// a look-up by name and two searches.
 ///
 /// Contracts see each package beside its place in the universe, in the order of the places.
 #[derive(Drop)]

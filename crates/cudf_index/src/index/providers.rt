@@ -15,8 +15,7 @@ use std::alloc::{AllocError, Global};
 use std::marker::Model;
 
 /// The packages of a universe that a status doesn't hold, to be asked which of them comes first that gives a name.
-/// Places are from 1, and the bounds of vpkgs are taken to be at least 1, as readers give them (CUDF 2.0, installations
-/// and features). It holds less than an [`Index`](crate::Index) of them would, which tells more.
+/// Places are from 1. It holds less than an [`Index`](crate::Index) of them would, which tells more.
 ///
 /// Contracts see each package beside its place in the universe, in the order of the places.
 #[derive(Drop)]

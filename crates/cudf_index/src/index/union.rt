@@ -1,5 +1,5 @@
 //! All packages of a status that alone satisfy a clause, unless a certain one does.
-ghost use Rattle.std.specs.Prelude.{◌≡◌, ℕ, ◌++◌, ◌==◌, true, false, map, filter, IfOk, OnOk};
+ghost use Rattle.std.specs.Prelude.{◌≡◌, ◌≤◌, ◌+◌, ◌*◌, ◌⊎◌, ℕ, ◌++◌, ◌==◌, true, false, length, map, filter, IfOk, OnOk};
 ghost use Rattle.std.specs.List.{list_any};
 ghost use Rattle.std.specs.List.Sorted.{IsStrictlyIncreasing};
 ghost use Rattle.cudf_value.specs.Promises.Views.{atom_view, clause_view, vpkg_view};
@@ -213,7 +213,8 @@ pub(crate) fn make_unique(places: &mut Vec<u64>)
 
 /// The same, if they are more than twice as many as there are different ones.
 fn make_unique_if_long(places: &mut Vec<u64>, different: usize)
-    ensures { HoldsSame places.old.items places.new.items }
+    ensures same { HoldsSame places.old.items places.new.items }
+    ensures few { IsStrictlyIncreasing places.new.items ⊎ (length places.new.items ≤ 2 * different + 1) }
 {
     if places.len() / 2 > different {
         make_unique(places);

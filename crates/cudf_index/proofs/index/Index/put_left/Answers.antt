@@ -15,4 +15,4 @@ returns c = λ old before so_far.
     let v = c.args.question.now in
     more_there old before v c.args.self.now c.args.asked c.args.places.now.items so_far c.in-Some.wanted c.all.new.places.items c.make_unique_if_long.new.places.items (subst (Leaves c.args.asked v) c.in-Some.is c.left_to_ask.ensures)
     (row_gives c.in-Some.wanted v.name.now (members (set.contains c.self.inside.status) c.self.inside.problem.now.packages) c.args.self.now _ c.args.places.now.items c.all.new.places.items c.self.view_is (c.self.invariant.0 v.name.now).1 c.in_ok-all.ensures)
-    c.make_unique_if_long.ensures
+    c.make_unique_if_long.ensures.same
