@@ -8,8 +8,8 @@ usage: memory.py PROGRAM [TESTS]
 - By shim.c each growth of memory (a call of malloc, calloc or realloc) is refused in turn, alone and with all later
   ones, in each command of refused.txt: status 6, nothing on standard output, no read after it, and the message that
   says if a file had been opened. The answer may be right if memory was to be given back, or if arguments are invalid.
-  There are at most as many growths as refused.txt says, and a tenth more: nothing is looked up or built twice, or for
-  nothing.
+  Once files are open there are at most as many growths as refused.txt says, and a tenth more: nothing is built twice,
+  or in vain.
 - The inputs of growth.txt, in a size and in twice that, with a stack of 128 KB: the whole answer. At most are wanted
   - growths: one for each byte of the input, and 500; for twice the input 2.2 times as many, and 500
   - bytes held at once: 64 for each byte of the input, or 4 after an error, and 1 MB; none at the end
@@ -104,22 +104,28 @@ def in_turn(shimmed, words):
 
 
 def refuse_each(trial, name, words, is_refused, is_right):
-    """Each run has to end as refused, or with the right answer. Returns the messages of those that were refused, and how
-    many growths there were."""
-    messages = set()
+    """Each run has to end as refused, or with the right answer. Returns the messages of those that were refused, and the
+    number of growths once a file was open."""
+    messages, growths = set(), 0
     for number, later, ended in in_turn(trial.shim, words):
         refused = bool(ended[3]) and is_refused(ended)
         messages |= {ended[2].decode()} if refused else set()
+        growths += later == "0" and has_opened(ended[3])
         trial.same(f"{name}: growth {number}, later ones {later}", refused or is_right(ended, later) or ended, True)
-    print(f"{name}: {number - 1} growths")
-    return messages, number - 1
+    print(f"{name}: {number - 1} growths, {growths} once a file was open")
+    return messages, growths
+
+
+def has_opened(marks):
+    """Whether a file was opened before the first growth that was refused."""
+    return b"o" in re.split(b"[gb]", marks)[0]
 
 
 def is_refused(ended, reads_files):
     """Whether a run ended as it has to where memory is refused."""
     status, output, errors, marks = ended
     messages = [NO_ROOM] * reads_files + [NO_ROOM_FOR_ARGUMENTS]
-    if b"o" in re.split(b"[gb]", marks)[0]:
+    if has_opened(marks):
         messages = [NO_ROOM]
     reads_on = b"r" in marks.partition(b"g")[2]
     return (status, output) == (NO_MEMORY, b"") and errors.decode() in messages and not reads_on
