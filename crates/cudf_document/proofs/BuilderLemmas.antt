@@ -15,26 +15,26 @@ use Rattle.cudf_problem.specs.declared.mode.Mode.{Mode}
 use Rattle.cudf_problem.specs.declared.postmark.Postmark.{Postmark}
 use Rattle.cudf_problem.specs.declared.postmark.Postmark.TheVariants.{Preamble, Package, Request}
 use Rattle.cudf_document.specs.Faults.{lesser, least, fault_if}
-use Rattle.cudf_problem.specs.Documents.{is_empty, with_earlier, postmark, marks_preamble, marks_package, marks_request, is_request, line_of}
+use Rattle.cudf_problem.specs.Documents.{is_empty, with_earlier, postmark, marks, is_request}
 use Rattle.cudf_problem.specs.Ids.{Id, is_id, is_among, is_known, id_of}
-use Rattle.cudf_document.specs.Working.Judging.{request_in, id_under, placed_faults}
+use Rattle.cudf_document.specs.Working.Judging.{request_in, id_under, placed_faults, line_of, lacks_one, version_property}
 use Rattle.cudf_problem.specs.Promises.Packages.{are_distinct, with_id, packages_in}
 use Rattle.cudf_problem.specs.Preamble.{declared_after, declared}
-use Rattle.cudf_document.specs.ProblemFaults.{place_faults, property_faults, version_property, repeated_package_faults, unversioned_faults, required_names, lacks_one, missing_faults, problem_misplaces, misplaced_faults, inner_faults, stanza_faults, requestless_faults, problem_faults}
-use Rattle.cudf_problem.specs.Universe.{PlainPackage, package_id, package_with, package_of, request_of}
-use Rattle.cudf_document.specs.Working.ProblemBuilders.{PlainBuilder, with_stanza, faults_inside, IsBuilt, IsListed, first_ids}
+use Rattle.cudf_document.specs.ProblemFaults.{place_faults, property_faults, repeated_package_faults, unversioned_faults, required_names, missing_faults, problem_misplaces, misplaced_faults, inner_faults, stanza_faults, problem_faults}
+use Rattle.cudf_problem.specs.Universe.{PlainPackage, package_id, package_of, request_of}
+use Rattle.cudf_document.specs.Working.ProblemBuilders.{PlainBuilder, with_stanza, faults_inside, IsBuilt, IsListed, first_ids, package_with}
 use Rattle.cudf_problem.proofs.ListLemmas.{as_list, option_or-none, list_any-insert_key, is_some-find, is_some-option_map}
 use Rattle.cudf_document.proofs.NameLemmas.{same_bytes}
 use Rattle.cudf_document.proofs.FaultLemmas.{least-faults_or, least-append}
 
 -- ---- what is declared
 
-declared-push : (before : List PlainStanza) (s : PlainStanza) → declared (before ++ s ∷ []) ≡ (if is_empty before then (if marks_preamble (postmark s) then declared_after [] s.properties else []) else declared before)
+declared-push : (before : List PlainStanza) (s : PlainStanza) → declared (before ++ s ∷ []) ≡ (if is_empty before then (if marks Preamble (postmark s) then declared_after [] s.properties else []) else declared before)
 declared-push [] s = refl
 declared-push (t ∷ before) s = refl
 
 -- a stanza that is no preamble declares nothing
-declared-other : (before : List PlainStanza) (s : PlainStanza) → marks_preamble (postmark s) ≡ false → declared (before ++ s ∷ []) ≡ declared before
+declared-other : (before : List PlainStanza) (s : PlainStanza) → marks Preamble (postmark s) ≡ false → declared (before ++ s ∷ []) ≡ declared before
 declared-other [] s h = ap (λ b. if b then declared_after [] s.properties else []) h
 declared-other (t ∷ before) s h = refl
 
@@ -108,19 +108,19 @@ module _ (g : PlainBuilder) (before : List PlainStanza) (s : PlainStanza) (so_fa
   -- one more stanza
   pub IsBuilt-next : (mark : Option Postmark) (is_first : Bool) → postmark s ≡ mark → is_first ≡ is_empty before → IsBuilt (with_stanza mark is_first s g) (before ++ s ∷ [])
   IsBuilt-next None is_first marked first = record {
-    declared_are = so_far.declared_are ∙ sym (declared-other before s (ap marks_preamble marked));
+    declared_are = so_far.declared_are ∙ sym (declared-other before s (ap (marks Preamble) marked));
     ids_are = no_more_ids (ap (λ m. id_under m s.properties) marked);
     packages_are = no_more_packages (ap (λ m. id_under m s.properties) marked);
-    request_is = no_more_requests (ap marks_request marked);
+    request_is = no_more_requests (ap (marks Request) marked);
   }
   IsBuilt-next (Some Preamble) is_first marked first = record {
-    declared_are = (λ i. if first i then (if marks_preamble (sym marked i) then declared_after [] s.properties else []) else so_far.declared_are i) ∙ sym (declared-push before s);
+    declared_are = (λ i. if first i then (if marks Preamble (sym marked i) then declared_after [] s.properties else []) else so_far.declared_are i) ∙ sym (declared-push before s);
     ids_are = no_more_ids (ap (λ m. id_under m s.properties) marked);
     packages_are = no_more_packages (ap (λ m. id_under m s.properties) marked);
-    request_is = no_more_requests (ap marks_request marked);
+    request_is = no_more_requests (ap (marks Request) marked);
   }
   IsBuilt-next (Some Package) is_first marked first = record {
-    declared_are = so_far.declared_are ∙ sym (declared-other before s (ap marks_preamble marked));
+    declared_are = so_far.declared_are ∙ sym (declared-other before s (ap (marks Preamble) marked));
     ids_are = λ id.
         let o : Option Id = id_under (Some Package) s.properties in
         with_id-append g.ids o id ∙ list_any-append (is_id id) g.ids (cons_option o [])
@@ -130,16 +130,16 @@ module _ (g : PlainBuilder) (before : List PlainStanza) (s : PlainStanza) (so_fa
     packages_are =
         (λ i. so_far.packages_are i ++ as_list (option_map (package_with g.declared s.line s.properties) (id_under (Some Package) s.properties)) i)
         ∙ (λ i. packages_in before
-        ++ cons_option (option_map (package_with ((so_far.declared_are ∙ sym (declared-other before s (ap marks_preamble marked))) i) s.line s.properties) (id_under (sym marked i) s.properties)) [])
+        ++ cons_option (option_map (package_with ((so_far.declared_are ∙ sym (declared-other before s (ap (marks Preamble) marked))) i) s.line s.properties) (id_under (sym marked i) s.properties)) [])
         ∙ sym (packages_in-push before s);
-    request_is = no_more_requests (ap marks_request marked);
+    request_is = no_more_requests (ap (marks Request) marked);
   }
   IsBuilt-next (Some Request) is_first marked first = record {
-    declared_are = so_far.declared_are ∙ sym (declared-other before s (ap marks_preamble marked));
+    declared_are = so_far.declared_are ∙ sym (declared-other before s (ap (marks Preamble) marked));
     ids_are = no_more_ids (ap (λ m. id_under m s.properties) marked);
     packages_are = no_more_packages (ap (λ m. id_under m s.properties) marked);
     request_is = first_or g.request (request_of s) ∙ ap (λ r. option_or r (Some (request_of s))) so_far.request_is
-        ∙ ap (λ b. option_or (request_in before) (option_map request_of (if b then Some s else None))) (sym (ap marks_request marked))
+        ∙ ap (λ b. option_or (request_in before) (option_map request_of (if b then Some s else None))) (sym (ap (marks Request) marked))
         ∙ sym (request_in-push before s);
   }
 
@@ -149,14 +149,14 @@ module _ (g : PlainBuilder) (before : List PlainStanza) (s : PlainStanza) (so_fa
       fault_if lacks s.last E14
       ++ flat_map (property_faults (declared before) mark) (with_earlier [] s.properties)
       ++ fault_if (is_known (filter_map id_of before) (id_under mark s.properties)) (line_of (version_property s)) E11
-      ++ fault_if (marks_package mark && is_none (version_property s)) s.last E12
+      ++ fault_if (marks Package mark && is_none (version_property s)) s.last E12
 
   -- those inside, but for properties out of place
   abbrev other_faults : Mode → List Fault
   other_faults mode =
       missing_faults (required_names mode (declared before)) s
       ++ flat_map (property_faults (declared before) (postmark s)) (with_earlier [] s.properties)
-      ++ repeated_package_faults (filter_map id_of before) s ++ unversioned_faults s
+      ++ repeated_package_faults E11 (before, s) ++ unversioned_faults s
 
   inside_is : (mode : Mode) (mark : Postmark) → postmark s ≡ Some mark → faults_inside (Some mark) (required_names mode (declared before)) g s ≡ other_faults mode
   inside_is mode Preamble marked = simp (marked, and-false, append-nil)
@@ -168,14 +168,14 @@ module _ (g : PlainBuilder) (before : List PlainStanza) (s : PlainStanza) (so_fa
       ++ flat_map (property_faults (so_far.declared_are i) (Some Package)) (with_earlier [] s.properties)
       ++ fault_if (is_known g.ids (id_under (Some Package) s.properties)) (line_of (version_property s)) E11
       ++ fault_if (is_none (version_property s)) s.last E12)
-      ∙ (λ i. fault_if (lacks && marks_package (sym marked i)) s.last E14
+      ∙ (λ i. fault_if (lacks && marks Package (sym marked i)) s.last E14
       ++ flat_map (property_faults (declared before) (sym marked i)) (with_earlier [] s.properties)
       ++ fault_if (is_known g.ids (id_under (sym marked i) s.properties)) (line_of (version_property s)) E11
-      ++ fault_if (marks_package (sym marked i) && is_none (version_property s)) s.last E12)
-      ∙ ap (λ b. fault_if (lacks && marks_package (postmark s)) s.last E14
+      ++ fault_if (marks Package (sym marked i) && is_none (version_property s)) s.last E12)
+      ∙ ap (λ b. fault_if (lacks && marks Package (postmark s)) s.last E14
       ++ flat_map (property_faults (declared before) (postmark s)) (with_earlier [] s.properties)
       ++ fault_if b (line_of (version_property s)) E11
-      ++ fault_if (marks_package (postmark s) && is_none (version_property s)) s.last E12)
+      ++ fault_if (marks Package (postmark s) && is_none (version_property s)) s.last E12)
       (is_known-along g.ids (filter_map id_of before) (id_of s) so_far.ids_are)
 
   -- a stanza's first fault, by where it is or else inside it, and a property out of place
@@ -248,15 +248,15 @@ pub problem_least : (text : PlainText) (mode : Mode) (first : Option Fault) (non
 unfolding problem_faults
 problem_least text mode first none line first_is none_is line_is =
     (λ i. lesser (lesser (sym (least-option text.fault) i) (first_is i)) (least (fault_if (none_is i) (line_is i) E13)))
-    ∙ ap (λ x. lesser x (least (requestless_faults text))) (sym (least-append (option_to_list text.fault) (flat_map (stanza_faults mode) (with_earlier [] text.stanzas))))
-    ∙ sym (least-append (option_to_list text.fault ++ flat_map (stanza_faults mode) (with_earlier [] text.stanzas)) (requestless_faults text))
+    ∙ ap (λ x. lesser x (least (fault_if (not (list_any is_request text.stanzas)) (max 1 text.lines) E13))) (sym (least-append (option_to_list text.fault) (flat_map (stanza_faults mode) (with_earlier [] text.stanzas))))
+    ∙ sym (least-append (option_to_list text.fault ++ flat_map (stanza_faults mode) (with_earlier [] text.stanzas)) (fault_if (not (list_any is_request text.stanzas)) (max 1 text.lines) E13))
 
-pub place_least : (is_first is_late none preamble : Bool) (mark : Option Postmark) (line : ℕ) → none ≡ is_none mark → preamble ≡ (marks_preamble mark && not is_first)
+pub place_least : (is_first is_late none preamble : Bool) (mark : Option Postmark) (line : ℕ) → none ≡ is_none mark → preamble ≡ (marks Preamble mark && not is_first)
     → lesser (lesser (least (fault_if none line E4)) (least (fault_if preamble line E5))) (least (fault_if is_late line E6)) ≡ least (placed_faults is_first is_late mark line)
 place_least is_first is_late none preamble mark line none_is preamble_is =
     (λ i. lesser (lesser (least (fault_if (none_is i) line E4)) (least (fault_if (preamble_is i) line E5))) (least (fault_if is_late line E6)))
-    ∙ ap (λ x. lesser x (least (fault_if is_late line E6))) (sym (least-append (fault_if (is_none mark) line E4) (fault_if (marks_preamble mark && not is_first) line E5)))
-    ∙ sym (least-append (fault_if (is_none mark) line E4 ++ fault_if (marks_preamble mark && not is_first) line E5) (fault_if is_late line E6))
+    ∙ ap (λ x. lesser x (least (fault_if is_late line E6))) (sym (least-append (fault_if (is_none mark) line E4) (fault_if (marks Preamble mark && not is_first) line E5)))
+    ∙ sym (least-append (fault_if (is_none mark) line E4 ++ fault_if (marks Preamble mark && not is_first) line E5) (fault_if is_late line E6))
 
 pub not_swap : (a b : Bool) → a ≡ not b → b ≡ not a
 not_swap a b h = sym (not-not b) ∙ ap not (sym h)

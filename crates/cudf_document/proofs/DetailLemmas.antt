@@ -22,10 +22,11 @@ use Rattle.cudf_document.specs.declared.details.found.Passed.{Passed}
 use Rattle.cudf_document.specs.Details.{PlainDetail, request_on, package_on, undeclared, misdeclared, lacking, misplaced, stanza_on, property_on, words, bad_piece, package_detail, repeated_detail, misdeclared_detail, property_detail, stanza_detail, text_detail, byte_detail, source_detail, fault_detail}
 use Rattle.cudf_problem.specs.Documents.{is_empty, with_earlier, is_request, has_name}
 use Rattle.cudf_problem.specs.Ids.{Id, id_of, is_known}
-use Rattle.cudf_problem.specs.Preamble.{is_declarable, added_by, declared_after, declared}
+use Rattle.cudf_problem.specs.Preamble.{is_declarable, declared_after, declared}
 use Rattle.cudf_document.specs.ProblemFaults.{required_names}
 use Rattle.cudf_document.specs.Working.SeenNames.{AreNames}
 use Rattle.cudf_document.specs.Working.Details.{nothing_passed, passed_with, passed_of, found_in, property_at, misdeclared_in, package_words, mistyped_after, lacking_after, is_of_pair, is_of_stanza, found_detail, pair_line}
+use Rattle.cudf_document.specs.Working.Judging.{added_by}
 use Rattle.cudf_problem.proofs.ListLemmas.{is_empty-push, option_map-option_map}
 use Rattle.cudf_document.proofs.NameLemmas.{any_named}
 use Rattle.cudf_document.proofs.PreambleLemmas.{declared_after-push}

@@ -11,13 +11,14 @@ use Rattle.cudf_problem.specs.declared.mode.Mode.{Mode}
 use Rattle.cudf_problem.specs.declared.mode.Mode.TheVariants.{Lenient, Strict}
 use Rattle.cudf_problem.specs.declared.postmark.Postmark.{Postmark}
 use Rattle.cudf_problem.specs.declared.postmark.Postmark.TheVariants.{Package}
-use Rattle.cudf_problem.specs.Documents.{is_empty, marks_package}
-use Rattle.cudf_problem.specs.Preamble.{reserved_names, is_declared, declared, declared_names}
+use Rattle.cudf_problem.specs.Documents.{is_empty, marks}
+use Rattle.cudf_problem.specs.Preamble.{reserved_names, declared, declared_names}
 use Rattle.cudf_document.specs.declared.proposed.extras.Extras.{Extras}
 use Rattle.cudf_document.specs.Faults.{least, fault_if}
-use Rattle.cudf_document.specs.SolutionFaults.{is_known_name, undeclared_in_solution, names_with}
+use Rattle.cudf_document.specs.SolutionFaults.{undeclared_in_solution}
 use Rattle.cudf_document.specs.Working.Enums.{AreWords}
-use Rattle.cudf_document.specs.Working.Extras.{is_extra, AreExtras}
+use Rattle.cudf_document.specs.Working.Extras.{is_extra, AreExtras, is_known_name, names_with}
+use Rattle.cudf_document.specs.Working.Judging.{is_declared}
 use Rattle.cudf_problem.proofs.ListLemmas.{list_any-map}
 use Rattle.cudf_document.proofs.NameLemmas.{bytes_eq-sym}
 
@@ -103,7 +104,7 @@ leniently_undeclared mode names seen e ps are is =
     ap (λ m. least (undeclared_in_solution m (names_with names seen) (Some Package) ps)) (sym is ∙ are.mode_is)
 
 -- where there is no package, none is reported
-pub nothing_undeclared : (mode : Mode) (names : List (List ℕ)) (mark : Option Postmark) (ps : List PlainProperty) → marks_package mark ≡ false
+pub nothing_undeclared : (mode : Mode) (names : List (List ℕ)) (mark : Option Postmark) (ps : List PlainProperty) → marks Package mark ≡ false
     → [] ≡ undeclared_in_solution mode names mark ps
 nothing_undeclared Lenient names mark ps other = refl
 nothing_undeclared Strict names mark ps other =

@@ -11,27 +11,28 @@ use Rattle.std.proofs.lemmas.List.Sums.{length-filter}
 use Rattle.std.specs.List.{list_any, list_all, flat_map, cons_option}
 use Rattle.cudf_text.specs.declared.fault.Fault.{Fault}
 use Rattle.cudf_text.specs.declared.fault.Kind.{Kind}
-use Rattle.cudf_text.specs.declared.fault.Kind.TheVariants.{E4, E5, E6, E9, E11, E12, E13}
+use Rattle.cudf_text.specs.declared.fault.Kind.TheVariants.{E4, E5, E6, E7, E8, E9, E10, E11, E12, E13}
 use Rattle.cudf_text.specs.Stanzas.{PlainProperty, PlainStanza, PlainText}
 use Rattle.cudf_value.specs.Declarations.{PlainDeclaration}
 use Rattle.cudf_problem.specs.declared.mode.Mode.{Mode}
 use Rattle.cudf_problem.specs.declared.postmark.Postmark.{Postmark}
 use Rattle.cudf_problem.specs.declared.postmark.Postmark.TheVariants.{Preamble, Package, Request}
 use Rattle.cudf_document.specs.Faults.{fault_if}
-use Rattle.cudf_problem.specs.Documents.{is_empty, with_earlier, postmark_named, postmark, marks_preamble, marks_package, is_request, has_name, value_of, line_of}
+use Rattle.cudf_problem.specs.Documents.{is_empty, with_earlier, postmark_named, postmark, marks, is_request, has_name, value_of}
 use Rattle.cudf_problem.specs.Promises.Packages.{is_package, are_distinct, packages_in}
 use Rattle.cudf_problem.specs.Ids.{Id, is_id, is_among, is_known, id_of}
-use Rattle.cudf_document.specs.Working.Judging.{id_under, fails, faults_or}
+use Rattle.cudf_document.specs.Working.Judging.{id_under, fails, is_mistyped, faults_or, line_of, version_property}
 use Rattle.cudf_value.specs.Types.{can_be}
-use Rattle.cudf_problem.specs.Values.{Test, name_value}
+use Rattle.cudf_problem.specs.Values.{name_value}
 use Rattle.cudf_document.specs.Working.Reads.{version_value}
 use Rattle.cudf_value.specs.Parts.{look_up}
-use Rattle.cudf_problem.specs.Preamble.{declared}
-use Rattle.cudf_document.specs.Working.Tests.{package_tests}
-use Rattle.cudf_document.proofs.TestLemmas.{package_tests-are}
-use Rattle.cudf_document.specs.ProblemFaults.{tests, place_faults, property_faults, repeated_faults, undeclared_faults, mistyped_faults, misdeclared_faults, version_property, repeated_package_faults, unversioned_faults, required_names, missing_faults, problem_misplaces, misplaced_faults, inner_faults, stanza_faults, requestless_faults, problem_faults}
-use Rattle.cudf_problem.specs.Universe.{PlainPackage, package_id, package_with, package_of}
+use Rattle.cudf_problem.specs.Preamble.{declared, declared_by, declared_after}
+use Rattle.cudf_document.specs.Working.Tests.{Test, package_tests}
+use Rattle.cudf_document.proofs.TestLemmas.{package_tests-are, fails-looked_up}
+use Rattle.cudf_document.specs.ProblemFaults.{types_in, place_faults, property_faults, mistyped_faults, repeated_package_faults, unversioned_faults, required_names, missing_faults, problem_misplaces, misplaced_faults, inner_faults, stanza_faults, problem_faults, repeats, declares}
+use Rattle.cudf_problem.specs.Universe.{PlainPackage, package_id, package_of}
 use Rattle.cudf_document.specs.Promises.Laws.{IsSound}
+use Rattle.cudf_document.specs.Working.ProblemBuilders.{package_with}
 use Rattle.cudf_problem.proofs.IdLemmas.{distinct-places}
 use Rattle.cudf_problem.proofs.ListLemmas.{is_some-find, is_some-option_map}
 use Rattle.cudf_document.proofs.NameLemmas.{same_bytes, bytes_same}
@@ -66,38 +67,38 @@ all_after test before (x ∷ xs) = ap (λ b. test x && b) (all_after test (befor
 
 record IsClean (before : List PlainStanza) (s : PlainStanza) : Type 0 where
   not_late : list_any is_request before ≡ false
-  well_typed : list_all (λ p. not (fails (look_up p.name (tests (declared before) (postmark s))) p.value)) s.properties ≡ true
+  well_typed : list_all (λ p. not (is_mistyped (look_up p.name (types_in (declared before) (postmark s))) p.value)) s.properties ≡ true
   fresh : is_known (filter_map id_of before) (id_of s) ≡ false
-  versioned : (marks_package (postmark s) && is_none (version_property s)) ≡ false
+  versioned : (marks Package (postmark s) && is_none (version_property s)) ≡ false
 
 typed_property : (ds : List PlainDeclaration) (mark : Option Postmark) (x : List PlainProperty × PlainProperty) → property_faults ds mark x ≡ []
-    → not (fails (look_up x.1.name (tests ds mark)) x.1.value) ≡ true
+    → not (is_mistyped (look_up x.1.name (types_in ds mark)) x.1.value) ≡ true
 typed_property ds mark (before, p) none =
-    let repeated = repeated_faults mark before p in
-    let front = nil_parts (repeated ++ undeclared_faults ds mark p ++ mistyped_faults (tests ds mark) p) (misdeclared_faults mark before p) none in
-    let typed = nil_parts (repeated ++ undeclared_faults ds mark p) (mistyped_faults (tests ds mark) p) front.0 in
-    ap not (none_of (fails (look_up p.name (tests ds mark)) p.value) p.line E9 typed.1)
+    let others = fault_if (repeats before p && not (declares mark p)) p.line E7 ++ fault_if (marks Package mark && is_none (look_up p.name (types_in ds mark))) p.line E8 in
+    let misdeclared = fault_if (declares mark p && is_none (declared_by (declared_after [] before) p.value)) p.line E10 in
+    let typed = nil_parts others (mistyped_faults (types_in ds mark) p) (nil_parts (others ++ mistyped_faults (types_in ds mark) p) misdeclared none).0 in
+    ap not (none_of (is_mistyped (look_up p.name (types_in ds mark)) p.value) p.line E9 typed.1)
 
 clean : (mode : Mode) (before : List PlainStanza) (s : PlainStanza) → stanza_faults mode (before, s) ≡ [] → IsClean before s
 clean mode before s none =
     let both = neither (place_faults before s) (inner_faults mode before s) none in
-    let place = nil_parts (fault_if (is_none (postmark s)) s.line E4 ++ fault_if (marks_preamble (postmark s) && not (is_empty before)) s.line E5)
+    let place = nil_parts (fault_if (is_none (postmark s)) s.line E4 ++ fault_if (marks Preamble (postmark s) && not (is_empty before)) s.line E5)
     (fault_if (list_any is_request before) s.line E6) both.0 in
     let missing = missing_faults (required_names mode (declared before)) s in
     let properties = flat_map (property_faults (declared before) (postmark s)) (with_earlier [] s.properties) in
-    let others = nil_parts (missing ++ properties ++ repeated_package_faults (filter_map id_of before) s ++ unversioned_faults s)
+    let others = nil_parts (missing ++ properties ++ repeated_package_faults E11 (before, s) ++ unversioned_faults s)
     (misplaced_faults mode (problem_misplaces (postmark s)) s.properties) both.1 in
-    let inner = nil_parts (missing ++ properties ++ repeated_package_faults (filter_map id_of before) s) (unversioned_faults s) others.0 in
-    let front = nil_parts (missing ++ properties) (repeated_package_faults (filter_map id_of before) s) inner.0 in
+    let inner = nil_parts (missing ++ properties ++ repeated_package_faults E11 (before, s)) (unversioned_faults s) others.0 in
+    let front = nil_parts (missing ++ properties) (repeated_package_faults E11 (before, s)) inner.0 in
     let typed = nil_parts missing properties front.0 in
     record {
       not_late = none_of (list_any is_request before) s.line E6 place.1;
       well_typed =
-          sym (all_after (λ p. not (fails (look_up p.name (tests (declared before) (postmark s))) p.value)) [] s.properties)
-          ∙ all_without (property_faults (declared before) (postmark s)) (λ x. not (fails (look_up x.1.name (tests (declared before) (postmark s))) x.1.value))
+          sym (all_after (λ p. not (is_mistyped (look_up p.name (types_in (declared before) (postmark s))) p.value)) [] s.properties)
+          ∙ all_without (property_faults (declared before) (postmark s)) (λ x. not (is_mistyped (look_up x.1.name (types_in (declared before) (postmark s))) x.1.value))
           (typed_property (declared before) (postmark s)) (with_earlier [] s.properties) typed.1;
       fresh = none_of (is_known (filter_map id_of before) (id_of s)) (line_of (version_property s)) E11 front.1;
-      versioned = none_of (marks_package (postmark s) && is_none (version_property s)) s.last E12 inner.1;
+      versioned = none_of (marks Package (postmark s) && is_none (version_property s)) s.last E12 inner.1;
     }
 
 -- ---- the parts of a problem
@@ -105,14 +106,14 @@ clean mode before s none =
 stanzas_clean : (text : PlainText) (mode : Mode) → problem_faults text mode ≡ [] → flat_map (stanza_faults mode) (with_earlier [] text.stanzas) ≡ []
 unfolding problem_faults
 stanzas_clean text mode none =
-    let parts = nil_parts (option_to_list text.fault ++ flat_map (stanza_faults mode) (with_earlier [] text.stanzas)) (requestless_faults text) none in
+    let parts = nil_parts (option_to_list text.fault ++ flat_map (stanza_faults mode) (with_earlier [] text.stanzas)) (fault_if (not (list_any is_request text.stanzas)) (max 1 text.lines) E13) none in
     (nil_parts (option_to_list text.fault) (flat_map (stanza_faults mode) (with_earlier [] text.stanzas)) parts.0).1
 
 -- there is a request
 pub has_request : (text : PlainText) (mode : Mode) → problem_faults text mode ≡ [] → list_any is_request text.stanzas ≡ true
 unfolding problem_faults
 has_request text mode none =
-    let parts = nil_parts (option_to_list text.fault ++ flat_map (stanza_faults mode) (with_earlier [] text.stanzas)) (requestless_faults text) none in
+    let parts = nil_parts (option_to_list text.fault ++ flat_map (stanza_faults mode) (with_earlier [] text.stanzas)) (fault_if (not (list_any is_request text.stanzas)) (max 1 text.lines) E13) none in
     not-false (list_any is_request text.stanzas) (none_of (not (list_any is_request text.stanzas)) (max 1 text.lines) E13 parts.1)
 
 -- ---- no pair twice
@@ -241,13 +242,14 @@ both_there _ _ a b = absurd cc
 
 -- a package stanza without faults has a name and a version
 id_there : (before : List PlainStanza) (s : PlainStanza) (mark : Option Postmark) → postmark s ≡ mark → IsClean before s
-    → (not (marks_package mark) || is_some (id_under mark s.properties)) ≡ true
+    → (not (marks Package mark) || is_some (id_under mark s.properties)) ≡ true
 id_there before s (Some Package) marked c =
     let known = package_tests (declared before) in
     let typed : list_all (λ p. not (fails (look_up p.name known) p.value)) s.properties ≡ true =
     ap (λ tests. list_all (λ p. not (fails (look_up p.name tests) p.value)) s.properties) (sym (package_tests-are (declared before)))
-    ∙ ap (λ m. list_all (λ p. not (fails (look_up p.name (tests (declared before) m)) p.value)) s.properties) (sym marked) ∙ c.well_typed in
-    let version : is_none (version_property s) ≡ false = ap (λ m. marks_package m && is_none (version_property s)) (sym marked) ∙ c.versioned in
+    ∙ (λ i. list_all (λ p. not (fails-looked_up p.name p.value (types_in (declared before) (Some Package)) i)) s.properties)
+    ∙ ap (λ m. list_all (λ p. not (is_mistyped (look_up p.name (types_in (declared before) m)) p.value)) s.properties) (sym marked) ∙ c.well_typed in
+    let version : is_none (version_property s) ≡ false = ap (λ m. marks Package m && is_none (version_property s)) (sym marked) ∙ c.versioned in
     both_there (value_of name_value (codes "package") s.properties) (value_of version_value (codes "version") s.properties)
     (value_there name_value (codes "package") known s.properties refl typed (named_package s.properties marked))
     (value_there version_value (codes "version") known s.properties refl typed

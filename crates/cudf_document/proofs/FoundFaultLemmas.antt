@@ -14,16 +14,17 @@ use Rattle.cudf_value.specs.Parts.{look_up, trimmed}
 use Rattle.cudf_problem.specs.declared.mode.Mode.{Mode}
 use Rattle.cudf_problem.specs.declared.mode.Mode.TheVariants.{Lenient, Strict}
 use Rattle.cudf_problem.specs.declared.postmark.Postmark.{Postmark}
-use Rattle.cudf_problem.specs.declared.postmark.Postmark.TheVariants.{Package}
-use Rattle.cudf_problem.specs.Documents.{is_empty, with_earlier, postmark, marks_preamble, marks_package, is_request, has_name, line_of, value_of}
+use Rattle.cudf_problem.specs.declared.postmark.Postmark.TheVariants.{Preamble, Package}
+use Rattle.cudf_problem.specs.Documents.{is_empty, with_earlier, postmark, marks, is_request, has_name, value_of}
 use Rattle.cudf_problem.specs.Ids.{Id, id_of, is_known}
 use Rattle.cudf_problem.specs.Preamble.{declared, declared_by, declared_after}
 use Rattle.cudf_problem.specs.Values.{name_value}
 use Rattle.cudf_document.specs.Faults.{fault_if}
-use Rattle.cudf_document.specs.ProblemFaults.{tests, declares, repeats, property_faults, place_faults, version_property, required_names, lacks_one, missing_faults, problem_misplaces, misplaced_faults, inner_faults, stanza_faults}
-use Rattle.cudf_document.specs.SolutionFaults.{solution_tests, value_faults, values_faults, is_known_name, undeclared_in_solution, solution_misplaces, solution_stanza_faults, repeated_pair_faults}
+use Rattle.cudf_document.specs.ProblemFaults.{types_in, declares, repeats, property_faults, place_faults, required_names, missing_faults, problem_misplaces, misplaced_faults, inner_faults, stanza_faults, repeated_package_faults}
+use Rattle.cudf_document.specs.SolutionFaults.{solution_types, value_faults, values_faults, undeclared_in_solution, solution_misplaces, solution_stanza_faults}
 use Rattle.cudf_document.specs.Promises.Laws.{IsFoundAt, AllAreFound, FaultsAreFound}
-use Rattle.cudf_document.specs.Working.Judging.{fails}
+use Rattle.cudf_document.specs.Working.Judging.{is_mistyped, line_of, lacks_one, version_property}
+use Rattle.cudf_document.specs.Working.Extras.{is_known_name}
 use Rattle.cudf_document.proofs.FoundLemmas.{Within, IsOrdered, IsFound, stanzas_found, properties_found}
 
 -- the line is one of a stanza's
@@ -74,7 +75,7 @@ module _ (s : PlainStanza) (ordered : IsOrdered s) where
 
   -- a stanza that has a name and a version has the line of the version
   no_id : version_property s ≡ None → id_of s ≡ None
-  no_id none = by (marks_package (postmark s)) (value_of name_value (codes "package") s.properties)
+  no_id none = by (marks Package (postmark s)) (value_of name_value (codes "package") s.properties)
     where
       no_version : value_of (trimmed positive) (codes "version") s.properties ≡ None
       no_version = ap (option_and_then (λ p. trimmed positive p.value)) none
@@ -91,25 +92,25 @@ module _ (s : PlainStanza) (ordered : IsOrdered s) where
       by None none = let unknown : is_known ids (id_of s) ≡ false = ap (is_known ids) (no_id none) in absurd cc
       by (Some p) is = in_found (has_name (codes "version")) s.properties ordered.within p is
 
-  in_unversioned : All (HasFault s) (fault_if (marks_package (postmark s) && is_none (version_property s)) s.last E12)
-  in_unversioned = in_if E12 (marks_package (postmark s) && is_none (version_property s)) s.last (λ h. on_last)
+  in_unversioned : All (HasFault s) (fault_if (marks Package (postmark s) && is_none (version_property s)) s.last E12)
+  in_unversioned = in_if E12 (marks Package (postmark s) && is_none (version_property s)) s.last (λ h. on_last)
 
   -- ---- a problem
 
   in_property : (ds : List PlainDeclaration) (mark : Option Postmark) (x : List PlainProperty × PlainProperty) → Inside s x.1.line → All (HasFault s) (property_faults ds mark x)
   in_property ds mark (before, p) inside =
       let one : (kind : Kind) (test : Bool) → All (HasFault s) (fault_if test p.line kind) = λ kind test. in_if kind test p.line (λ h. inside) in
-      in_both _ _ (in_both _ _ (in_both _ _ (one E7 (repeats before p && not (declares mark p))) (one E8 (marks_package mark && is_none (look_up p.name (tests ds mark)))))
-      (one E9 (fails (look_up p.name (tests ds mark)) p.value))) (one E10 (declares mark p && is_none (declared_by (declared_after [] before) p.value)))
+      in_both _ _ (in_both _ _ (in_both _ _ (one E7 (repeats before p && not (declares mark p))) (one E8 (marks Package mark && is_none (look_up p.name (types_in ds mark)))))
+      (one E9 (is_mistyped (look_up p.name (types_in ds mark)) p.value))) (one E10 (declares mark p && is_none (declared_by (declared_after [] before) p.value)))
 
   in_missing : (required : List (List ℕ)) → All (HasFault s) (missing_faults required s)
-  in_missing required = in_if E14 (lacks_one required s.properties && marks_package (postmark s)) s.last (λ h. on_last)
+  in_missing required = in_if E14 (lacks_one required s.properties && marks Package (postmark s)) s.last (λ h. on_last)
 
   in_problem : (mode : Mode) (before : List PlainStanza) → All (HasFault s) (stanza_faults mode (before, s))
   in_problem mode before =
       let ds = declared before in
       let place = in_both _ _ (in_both _ _ (in_if E4 (is_none (postmark s)) s.line (λ h. on_first))
-      (in_if E5 (marks_preamble (postmark s) && not (is_empty before)) s.line (λ h. on_first))) (in_if E6 (list_any is_request before) s.line (λ h. on_first)) in
+      (in_if E5 (marks Preamble (postmark s) && not (is_empty before)) s.line (λ h. on_first))) (in_if E6 (list_any is_request before) s.line (λ h. on_first)) in
       let each = in_each (property_faults ds (postmark s)) (in_property ds (postmark s)) [] s.properties ordered.within in
       let repeated = in_if E11 (is_known (filter_map id_of before) (id_of s)) (line_of (version_property s)) (on_version (filter_map id_of before)) in
       in_place_or (place_faults before s) (inner_faults mode before s) place
@@ -120,11 +121,11 @@ module _ (s : PlainStanza) (ordered : IsOrdered s) where
 
   in_value : (x : List PlainProperty × PlainProperty) → Inside s x.1.line → All (HasFault s) (value_faults x)
   in_value (before, p) inside =
-      in_both _ _ (in_if E7 (repeats before p && is_some (look_up p.name solution_tests)) p.line (λ h. inside))
-      (in_if E9 (fails (look_up p.name solution_tests) p.value) p.line (λ h. inside))
+      in_both _ _ (in_if E7 (repeats before p && is_some (look_up p.name solution_types)) p.line (λ h. inside))
+      (in_if E9 (is_mistyped (look_up p.name solution_types) p.value) p.line (λ h. inside))
 
   in_values : (mark : Option Postmark) → All (HasFault s) (values_faults mark s.properties)
-  in_values mark = by (marks_package mark)
+  in_values mark = by (marks Package mark)
     where
       by : (b : Bool) → All (HasFault s) (if b then flat_map value_faults (with_earlier [] s.properties) else [])
       by true = in_each value_faults in_value [] s.properties ordered.within
@@ -139,7 +140,7 @@ module _ (s : PlainStanza) (ordered : IsOrdered s) where
       (in_undeclared Strict names (Some Package) ps w.1)
   in_undeclared Strict names _ ps w = All-nil (HasFault s)
 
-  in_solution : (mode : Mode) (names : List (List ℕ)) (before : List PlainStanza) → All (HasFault s) (solution_stanza_faults mode names s ++ repeated_pair_faults (before, s))
+  in_solution : (mode : Mode) (names : List (List ℕ)) (before : List PlainStanza) → All (HasFault s) (solution_stanza_faults mode names s ++ repeated_package_faults E15 (before, s))
   in_solution mode names before =
       in_both _ _ (in_both _ _ (in_both _ _ (in_both _ _ (in_both _ _ (in_if E4 (is_none (postmark s)) s.line (λ h. on_first)) (in_values (postmark s))) in_unversioned)
       (in_misplaced mode (solution_misplaces (postmark s)) s.properties ordered.within)) (in_undeclared mode names (postmark s) s.properties ordered.within))
@@ -165,6 +166,6 @@ faults_are_found source = by (stanzas_of (read_lines source)) (stanzas_found sou
     by : (stanzas : List PlainStanza) → All (IsFound stanzas) (with_earlier [] stanzas) → AllAreFound stanzas
     by stanzas found = record {
       problem = λ mode. for_each (IsFound stanzas) _ (λ x is. all_found stanzas x is (stanza_faults mode x) (in_problem x.1 is.ordered mode x.0)) (with_earlier [] stanzas) found;
-      solution = λ mode names. for_each (IsFound stanzas) _ (λ x is. all_found stanzas x is (solution_stanza_faults mode names x.1 ++ repeated_pair_faults x) (in_solution x.1 is.ordered mode names x.0)) (with_earlier [] stanzas) found;
+      solution = λ mode names. for_each (IsFound stanzas) _ (λ x is. all_found stanzas x is (solution_stanza_faults mode names x.1 ++ repeated_package_faults E15 x) (in_solution x.1 is.ordered mode names x.0)) (with_earlier [] stanzas) found;
       property = for_each (IsFound stanzas) _ (λ x is. properties_found x.1 is.ordered) (with_earlier [] stanzas) found;
     }

@@ -4,11 +4,9 @@ use Rattle.cudf_text.specs.declared.fault.Kind.TheVariants.{E11, E12}
 use Rattle.cudf_text.specs.Stanzas.{PlainProperty, PlainStanza}
 use Rattle.cudf_document.specs.declared.package.identity.Identity.{Identity}
 use Rattle.cudf_problem.specs.declared.postmark.Postmark.TheVariants.{Package}
-use Rattle.cudf_problem.specs.Documents.{line_of}
 use Rattle.cudf_document.specs.Faults.{fault_if}
 use Rattle.std.specs.Option.{option_zip}
-use Rattle.cudf_document.specs.Working.Judging.{id_under}
-use Rattle.cudf_document.specs.ProblemFaults.{version_property}
+use Rattle.cudf_document.specs.Working.Judging.{id_under, line_of, version_property}
 use Rattle.cudf_document.specs.Working.Identities.{IsIdentity, known_id}
 
 pub known_id-is : (i : Identity) (ps : List PlainProperty) → IsIdentity i ps → known_id i ≡ id_under (Some Package) ps

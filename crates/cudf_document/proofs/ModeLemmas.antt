@@ -9,16 +9,17 @@ use Rattle.cudf_text.specs.Stanzas.{PlainProperty, PlainStanza, PlainText}
 use Rattle.cudf_value.specs.Declarations.{PlainDeclaration}
 use Rattle.cudf_problem.specs.declared.mode.Mode.TheVariants.{Lenient, Strict}
 use Rattle.cudf_problem.specs.declared.postmark.Postmark.{Postmark}
-use Rattle.cudf_problem.specs.declared.postmark.Postmark.TheVariants.{Package}
+use Rattle.cudf_problem.specs.declared.postmark.Postmark.TheVariants.{Preamble, Package}
 use Rattle.cudf_document.specs.Faults.{fault_if}
-use Rattle.cudf_problem.specs.Documents.{is_empty, with_earlier, postmark, marks_preamble, marks_package, is_request, line_of}
-use Rattle.cudf_document.specs.Working.Judging.{same_name, fails, faults_or, properties_faults}
+use Rattle.cudf_problem.specs.Documents.{is_empty, with_earlier, postmark, marks, is_request}
+use Rattle.cudf_document.specs.Working.Judging.{same_name, is_mistyped, faults_or, properties_faults, line_of, lacks_one, version_property}
 use Rattle.cudf_problem.specs.Ids.{id_of, is_known}
 use Rattle.cudf_problem.specs.Preamble.{declared, declared_by, declared_after}
 use Rattle.cudf_value.specs.Parts.{look_up}
-use Rattle.cudf_document.specs.ProblemFaults.{unmarked_faults, tests, declares, property_faults, place_faults, version_property, repeated_package_faults, unversioned_faults, required_names, lacks_one, missing_faults, problem_misplaces, misplaced_faults, inner_faults, stanza_faults, requestless_faults, problem_faults}
-use Rattle.cudf_document.specs.SolutionFaults.{solution_tests, value_faults, values_faults, is_known_name, undeclared_in_solution, names_with, solution_misplaces, solution_stanza_faults, repeated_pair_faults, repeated_pairs_faults, solution_faults}
+use Rattle.cudf_document.specs.ProblemFaults.{types_in, declares, property_faults, place_faults, repeated_package_faults, unversioned_faults, required_names, missing_faults, problem_misplaces, misplaced_faults, inner_faults, stanza_faults, problem_faults}
+use Rattle.cudf_document.specs.SolutionFaults.{solution_types, value_faults, values_faults, undeclared_in_solution, solution_misplaces, solution_stanza_faults, repeated_pairs_faults, solution_faults}
 use Rattle.cudf_document.specs.Promises.Laws.{is_strict_of_problem, is_strict_of_solution, is_strict, StrictAdds, StrictAddsSomeKinds}
+use Rattle.cudf_document.specs.Working.Extras.{is_known_name, names_with}
 use Rattle.cudf_document.proofs.LawLemmas.{head_or_after, none_in_nil, at_head}
 
 -- ---- faults of some kinds besides
@@ -109,7 +110,7 @@ module _ (is_added : Kind → Bool) (line : Option Fault) where
       by (Some f) is = All-cons (IsTold is_added line) f [] (inl is) (All-nil (IsTold is_added line))
 
   unversioned_told : (is_added E12 || is_strict E12) ≡ false → (s : PlainStanza) → All (IsTold is_added line) (unversioned_faults s)
-  unversioned_told told s = told_if E12 told (marks_package (postmark s) && is_none (version_property s)) s.last
+  unversioned_told told s = told_if E12 told (marks Package (postmark s) && is_none (version_property s)) s.last
 
 -- ---- of a problem
 
@@ -124,15 +125,15 @@ module _ (line : Option Fault) where
   property_told ds mark (before, p) =
       let K : Kind → Bool = is_strict_of_problem in
       let repeated = told_if K line E7 refl (list_any (same_name p) before && not (declares mark p)) p.line in
-      let undeclared = told_if K line E8 refl (marks_package mark && is_none (look_up p.name (tests ds mark))) p.line in
-      let mistyped = told_if K line E9 refl (fails (look_up p.name (tests ds mark)) p.value) p.line in
+      let undeclared = told_if K line E8 refl (marks Package mark && is_none (look_up p.name (types_in ds mark))) p.line in
+      let mistyped = told_if K line E9 refl (is_mistyped (look_up p.name (types_in ds mark)) p.value) p.line in
       let misdeclared = told_if K line E10 refl (declares mark p && is_none (declared_by (declared_after [] before) p.value)) p.line in
       problem_told _ _ (problem_told _ _ (problem_told _ _ repeated undeclared) mistyped) misdeclared
 
   stanza_told : (x : List PlainStanza × PlainStanza) → of_problem (stanza_faults Lenient x)
   stanza_told (before, s) =
       let K : Kind → Bool = is_strict_of_problem in
-      let late_preamble = told_if K line E5 refl (marks_preamble (postmark s) && not (is_empty before)) s.line in
+      let late_preamble = told_if K line E5 refl (marks Preamble (postmark s) && not (is_empty before)) s.line in
       let late = told_if K line E6 refl (list_any is_request before) s.line in
       let properties = told-flat_map K line (property_faults (declared before) (postmark s)) (property_told (declared before) (postmark s)) (with_earlier [] s.properties) in
       let repeated = told_if K line E11 refl (is_known (filter_map id_of before) (id_of s)) (line_of (version_property s)) in
@@ -152,8 +153,8 @@ module _ (line : Option Fault) where
   value_told : (x : List PlainProperty × PlainProperty) → of_solution (value_faults x)
   value_told (before, p) =
       let K : Kind → Bool = is_strict_of_solution in
-      solution_told _ _ (told_if K line E7 refl (list_any (same_name p) before && is_some (look_up p.name solution_tests)) p.line)
-      (told_if K line E9 refl (fails (look_up p.name solution_tests) p.value) p.line)
+      solution_told _ _ (told_if K line E7 refl (list_any (same_name p) before && is_some (look_up p.name solution_types)) p.line)
+      (told_if K line E9 refl (is_mistyped (look_up p.name solution_types) p.value) p.line)
 
   values_told : (mark : Option Postmark) (ps : List PlainProperty) → of_solution (values_faults mark ps)
   values_told (Some Package) ps = told-flat_map is_strict_of_solution line value_faults value_told (with_earlier [] ps)
@@ -185,12 +186,12 @@ stanza_adds : (x : List PlainStanza × PlainStanza) → Adds is_strict_of_proble
 stanza_adds (before, s) =
     let ds = declared before in
     let K : Kind → Bool = is_strict_of_problem in
-    let missing = Adds-kind K E14 refl (lacks_one (required_names Strict ds) s.properties && marks_package (postmark s)) s.last in
+    let missing = Adds-kind K E14 refl (lacks_one (required_names Strict ds) s.properties && marks Package (postmark s)) s.last in
     let misplaced = Adds-misplaced K refl (problem_misplaces (postmark s)) s.properties in
     Adds-faults_or K (place_faults before s) (inner_faults Lenient before s) (inner_faults Strict before s)
     (Adds-append K _ _ [] (misplaced_faults Strict (problem_misplaces (postmark s)) s.properties)
     (Adds-append K _ _ (unversioned_faults s) (unversioned_faults s)
-    (Adds-append K _ _ (repeated_package_faults (filter_map id_of before) s) (repeated_package_faults (filter_map id_of before) s)
+    (Adds-append K _ _ (repeated_package_faults E11 (before, s)) (repeated_package_faults E11 (before, s))
     (Adds-append K [] (missing_faults (required_names Strict ds) s) (properties_faults ds (postmark s) s.properties) (properties_faults ds (postmark s) s.properties) missing
     (Adds-same K _)) (Adds-same K _)) (Adds-same K _)) misplaced)
 
@@ -200,17 +201,17 @@ problem_adds text =
     let each = with_earlier [] text.stanzas in
     let K : Kind → Bool = is_strict_of_problem in
     adds-told K text.fault _ _
-    (Adds-append K _ _ (requestless_faults text) (requestless_faults text)
+    (Adds-append K _ _ (fault_if (not (list_any is_request text.stanzas)) (max 1 text.lines) E13) (fault_if (not (list_any is_request text.stanzas)) (max 1 text.lines) E13)
     (Adds-append K (option_to_list text.fault) (option_to_list text.fault) (flat_map (stanza_faults Lenient) each) (flat_map (stanza_faults Strict) each)
     (Adds-same K _) (Adds-flat_map K (stanza_faults Lenient) (stanza_faults Strict) stanza_adds each)) (Adds-same K _))
     (problem_told text.fault _ _ (problem_told text.fault _ _ (line_told K text.fault) (told-flat_map K text.fault (stanza_faults Lenient) (stanza_told text.fault) each))
     (told_if K text.fault E13 refl (not (list_any is_request text.stanzas)) (max 1 text.lines)))
 
 -- a pair that occurs again, where none counts
-pairs_add : (xs : List (List PlainStanza × PlainStanza)) → Adds is_strict_of_solution [] (flat_map repeated_pair_faults xs)
+pairs_add : (xs : List (List PlainStanza × PlainStanza)) → Adds is_strict_of_solution [] (flat_map (repeated_package_faults E15) xs)
 pairs_add [] = Adds-same is_strict_of_solution []
 pairs_add ((before, s) ∷ xs) =
-    Adds-append is_strict_of_solution [] (repeated_pair_faults (before, s)) [] (flat_map repeated_pair_faults xs)
+    Adds-append is_strict_of_solution [] (repeated_package_faults E15 (before, s)) [] (flat_map (repeated_package_faults E15) xs)
     (Adds-kind is_strict_of_solution E15 refl (is_known (filter_map id_of before) (id_of s)) (line_of (version_property s))) (pairs_add xs)
 
 solution_stanza_adds : (names : List (List ℕ)) (s : PlainStanza) → Adds is_strict_of_solution (solution_stanza_faults Lenient names s) (solution_stanza_faults Strict names s)
@@ -218,7 +219,7 @@ solution_stanza_adds names s =
     let K : Kind → Bool = is_strict_of_solution in
     Adds-append K _ _ [] (undeclared_in_solution Strict names (postmark s) s.properties)
     (Adds-append K _ _ [] (misplaced_faults Strict (solution_misplaces (postmark s)) s.properties)
-    (Adds-same K (unmarked_faults s ++ values_faults (postmark s) s.properties ++ unversioned_faults s))
+    (Adds-same K (fault_if (is_none (postmark s)) s.line E4 ++ values_faults (postmark s) s.properties ++ unversioned_faults s))
     (Adds-misplaced K refl (solution_misplaces (postmark s)) s.properties))
     (Adds-undeclared names (postmark s) s.properties)
 

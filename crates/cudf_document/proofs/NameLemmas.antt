@@ -11,8 +11,7 @@ use Rattle.indexmap.specs.IndexSet.{insert_key}
 use Rattle.cudf_text.specs.Stanzas.{PlainProperty}
 use Rattle.cudf_document.specs.Working.SeenNames.{AreNames}
 use Rattle.cudf_problem.specs.Documents.{has_name, value_of}
-use Rattle.cudf_document.specs.Working.Judging.{same_name}
-use Rattle.cudf_document.specs.ProblemFaults.{lacks_one}
+use Rattle.cudf_document.specs.Working.Judging.{same_name, lacks_one}
 use Rattle.cudf_problem.proofs.ListLemmas.{option_or-none, is_some-find, find_none, list_any-map, list_any-insert_key}
 
 -- ---- equal names

@@ -12,15 +12,15 @@ use Rattle.cudf_problem.specs.Documents.{value_of}
 use Rattle.cudf_document.specs.Working.Judging.{same_name}
 use Rattle.cudf_problem.specs.Values.{truth_value, keep_value}
 use Rattle.cudf_document.specs.Working.Reads.{formula_value, list_value, exact_list_value}
-use Rattle.cudf_document.specs.Working.Tests.{declared_test, package_tests}
+use Rattle.cudf_document.specs.Working.Tests.{type_test, declared_test, package_tests}
 use Rattle.cudf_value.specs.Parts.{look_up}
 use Rattle.cudf_problem.specs.Preamble.{is_formula_type, recommends_in}
-use Rattle.cudf_document.specs.ProblemFaults.{tests, property_faults}
+use Rattle.cudf_document.specs.ProblemFaults.{types_in, property_faults}
 use Rattle.cudf_document.specs.Working.PackageFields.{PlainPackageFields, package_property_named, wrong_kind, fault_on, package_fields_of, with_package_property, no_package_fields}
 use Rattle.cudf_document.proofs.NameLemmas.{same_bytes, by_words, value_of-repeated, value_next}
 use Rattle.cudf_document.proofs.DeclarationLemmas.{test_of-declared}
 use Rattle.cudf_document.proofs.PropertyLemmas.{package_property}
-use Rattle.cudf_document.proofs.TestLemmas.{package_tests-are}
+use Rattle.cudf_document.proofs.TestLemmas.{package_tests-are, looked_up}
 
 abbrev words : List (List ℕ)
 words = codes "depends" ∷ codes "conflicts" ∷ codes "provides" ∷ codes "installed" ∷ codes "keep" ∷ codes "was-installed" ∷ codes "recommends" ∷ []
@@ -109,5 +109,7 @@ package_fields_of-first ds ps p new = with_package_property-says ds ps p.value p
 pub package_fault : (ds : List PlainDeclaration) (ps : List PlainProperty) (p : PlainProperty) (again : Bool) → list_any (same_name p) ps ≡ again
     → fault_on p.line (if again then Some E7 else wrong_kind (look_up p.name (package_tests ds)) p.value) ≡ least (property_faults ds (Some PackageMark) (ps, p))
 package_fault ds ps p again is =
-    (λ i. fault_on p.line (if sym is i then Some E7 else wrong_kind (look_up p.name (sym (package_tests-are ds) i)) p.value))
-    ∙ sym (package_property p.line (list_any (same_name p) ps) (look_up p.name (tests ds (Some PackageMark))) p.value)
+    let test : look_up p.name (package_tests ds) ≡ option_map type_test (look_up p.name (types_in ds (Some PackageMark))) =
+    ap (look_up p.name) (sym (package_tests-are ds)) ∙ looked_up p.name (types_in ds (Some PackageMark)) in
+    (λ i. fault_on p.line (if sym is i then Some E7 else wrong_kind (test i) p.value))
+    ∙ sym (package_property p.line (list_any (same_name p) ps) (look_up p.name (types_in ds (Some PackageMark))) p.value)

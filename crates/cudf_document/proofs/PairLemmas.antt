@@ -9,13 +9,12 @@ use Rattle.cudf_text.specs.Stanzas.{PlainStanza}
 use Rattle.cudf_problem.specs.declared.mode.Mode.{Mode}
 use Rattle.cudf_problem.specs.declared.mode.Mode.TheVariants.{Lenient, Strict}
 use Rattle.cudf_document.specs.declared.proposed.pairs.Pairs.{Pairs}
-use Rattle.cudf_problem.specs.Documents.{line_of}
 use Rattle.cudf_document.specs.Faults.{lesser, least, fault_if}
 use Rattle.cudf_problem.specs.Ids.{Id, is_id, is_among, is_known, id_of}
 use Rattle.cudf_problem.specs.Promises.Packages.{with_id}
-use Rattle.cudf_document.specs.ProblemFaults.{version_property}
-use Rattle.cudf_document.specs.SolutionFaults.{repeated_pair_faults}
+use Rattle.cudf_document.specs.ProblemFaults.{repeated_package_faults}
 use Rattle.cudf_document.specs.Working.Pairs.{ArePairs}
+use Rattle.cudf_document.specs.Working.Judging.{line_of, version_property}
 use Rattle.cudf_document.proofs.BuilderLemmas.{with_id-append, is_known-along}
 use Rattle.cudf_document.proofs.FaultLemmas.{faults-next}
 
@@ -41,7 +40,7 @@ ArePairs-strict Strict old new seen s id is_repeated fault strict id_is so_far r
     repeated_is ∙ ap (is_known old.ids) id_is ∙ is_known-along old.ids (filter_map id_of seen) (id_of s) (so_far.ids_are refl) in
     record {
       mode_is = mode_is ∙ strict;
-      first_is = first_is ∙ faults-next repeated_pair_faults seen s old.first fault so_far.first_is
+      first_is = first_is ∙ faults-next (repeated_package_faults E15) seen s old.first fault so_far.first_is
           (fault_is ∙ ap (λ b. least (fault_if b (line_of (version_property s)) E15)) repeated);
       ids_are = λ strictly id. ap (λ ids. is_among ids id) (ids_is ∙ ap (with_id old.ids) id_is) ∙ picked-push id_of old.ids seen s (so_far.ids_are refl) id;
     }

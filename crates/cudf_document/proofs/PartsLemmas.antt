@@ -8,7 +8,7 @@ use Rattle.cudf_document.specs.declared.problem.keeping.Parts.{Parts}
 use Rattle.cudf_document.specs.declared.problem.walk.Walk.{Walk}
 use Rattle.cudf_problem.specs.declared.postmark.Postmark.{Postmark}
 use Rattle.cudf_problem.specs.declared.postmark.Postmark.TheVariants.{Preamble, Package, Request}
-use Rattle.cudf_problem.specs.Documents.{is_empty, postmark, marks_package, marks_request, is_request}
+use Rattle.cudf_problem.specs.Documents.{is_empty, postmark, marks, is_request}
 use Rattle.cudf_problem.specs.Promises.Packages.{is_package, are_distinct, packages_in}
 use Rattle.cudf_problem.specs.Ids.{Id, id_of}
 use Rattle.cudf_document.specs.Working.Judging.{request_in, id_under}
@@ -71,8 +71,8 @@ passed keeps before s p no_package no_request was = by (postmark s) refl
     by (Some Preamble) marked =
         let next = gathered (declared before) (option_map request_view p.request) before s (Some Preamble) marked refl was.request_is in
         record { keeps_is = was.keeps_is; packages_are = λ kept. was.packages_are kept ∙ next.packages_are; request_is = next.request_is }
-    by (Some Package) marked = absurd (true≢false (sym (ap marks_package marked) ∙ no_package))
-    by (Some Request) marked = absurd (true≢false (sym (ap marks_request marked) ∙ no_request))
+    by (Some Package) marked = absurd (true≢false (sym (ap (marks Package) marked) ∙ no_package))
+    by (Some Request) marked = absurd (true≢false (sym (ap (marks Request) marked) ∙ no_request))
 
 -- ---- the whole text
 

@@ -18,7 +18,7 @@ use Rattle.cudf_problem.specs.Ids.{Id, is_id, is_among}
 use Rattle.cudf_problem.specs.Promises.Packages.{are_distinct}
 use Rattle.cudf_problem.specs.Promises.Statuses.{are_outside, installed_with, installed_of, installed_stanzas}
 use Rattle.cudf_problem.specs.Promises.Views.{unknown_view}
-use Rattle.cudf_problem.specs.Statuses.{PlainUnknown, installed_id, installed_ids, is_proposed, unknown_with, unknown_of, ascend_above}
+use Rattle.cudf_problem.specs.Statuses.{PlainUnknown, installed_id, is_proposed, unknown_of, ascend_above}
 use Rattle.cudf_problem.specs.Universe.{PlainPackage, PlainProblem, package_id}
 use Rattle.cudf_problem.specs.Working.Flags.{flag_at}
 use Rattle.cudf_document.specs.Working.Placed.{ids_of, pair_of, if_outside, IsPlaced, IsSolutionOf}
@@ -26,8 +26,8 @@ use Rattle.cudf_document.proofs.BuilderLemmas.{same_pair}
 use Rattle.cudf_problem.proofs.IdLemmas.{distinct-places}
 use Rattle.cudf_problem.proofs.FlagLemmas.{flag_at-flags}
 use Rattle.cudf_document.proofs.NameLemmas.{bytes_eq-sym}
-use Rattle.cudf_document.proofs.ProposedLemmas.{installed_pairs}
-use Rattle.cudf_problem.proofs.StatusLemmas.{within_universe, unknown_ascend, unknown_outside}
+use Rattle.cudf_document.proofs.ProposedLemmas.{installed_ids, installed_pairs}
+use Rattle.cudf_problem.proofs.StatusLemmas.{within_universe, unknown_with, unknown_ascend, unknown_outside}
 
 -- ---- pairs
 

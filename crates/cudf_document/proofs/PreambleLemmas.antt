@@ -9,8 +9,8 @@ use Rattle.cudf_value.specs.Declarations.{PlainDeclaration}
 use Rattle.cudf_problem.specs.declared.postmark.Postmark.TheVariants.{Preamble as PreambleMark}
 use Rattle.cudf_document.specs.Faults.{lesser}
 use Rattle.cudf_problem.specs.Documents.{has_name}
-use Rattle.cudf_document.specs.Working.Judging.{same_name}
-use Rattle.cudf_problem.specs.Preamble.{declared_by, added_by, declared_after}
+use Rattle.cudf_document.specs.Working.Judging.{same_name, added_by}
+use Rattle.cudf_problem.specs.Preamble.{declared_by, declared_after}
 use Rattle.cudf_document.specs.Working.PackageFields.{fault_on}
 use Rattle.cudf_document.specs.Working.ProblemBuilders.{preamble_kind_after, is_bad_declaration}
 use Rattle.cudf_document.proofs.PropertyLemmas.{IsJudgedTo, IsJudgedTo-next, preamble_property}

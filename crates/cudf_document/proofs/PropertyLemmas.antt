@@ -1,9 +1,11 @@
 -- The faults of one property.
-use Rattle.std.proofs.Common.{◌≡◌, ℕ, ◌≤◌, Bool, true, false, not, ◌||◌, ◌&&◌, ◌==◌, nat_lt, List, [], ◌∷◌, ◌++◌, Option, None, Some, is_none, refl, sym, ap, ◌∙◌, arith, if◌then◌else◌, bytes_eq}
+use Rattle.std.proofs.Common.{◌≡◌, ℕ, ◌≤◌, Bool, true, false, not, ◌||◌, ◌&&◌, ◌==◌, nat_lt, List, [], ◌∷◌, ◌++◌, Option, None, Some, is_none, option_map, refl, sym, ap, ◌∙◌, arith, if◌then◌else◌, bytes_eq}
 use Rattle.std.specs.List.{list_any, flat_map}
 use Rattle.indexmap.specs.IndexSet.{insert_key}
 use Rattle.cudf_text.specs.declared.fault.Fault.{Fault}
 use Rattle.cudf_text.specs.Stanzas.{PlainProperty}
+use Rattle.cudf_text.specs.Chars.{trim}
+use Rattle.cudf_value.specs.Types.{PlainType, is_of_type}
 use Rattle.cudf_value.specs.Declarations.{PlainDeclaration}
 use Rattle.cudf_problem.specs.declared.postmark.Postmark.{Postmark}
 use Rattle.cudf_problem.specs.Documents.{with_earlier}
@@ -16,8 +18,8 @@ use Rattle.cudf_text.specs.declared.fault.Kind.{Kind}
 use Rattle.cudf_text.specs.declared.fault.Kind.TheVariants.{E7, E8, E9, E10}
 use Rattle.cudf_text.specs.Faults.{rank}
 use Rattle.cudf_document.specs.Faults.{lesser, least, fault_if}
-use Rattle.cudf_problem.specs.Values.{Test}
-use Rattle.cudf_document.specs.Working.Judging.{fails}
+use Rattle.cudf_document.specs.Working.Judging.{is_mistyped}
+use Rattle.cudf_document.specs.Working.Tests.{type_test}
 use Rattle.cudf_document.specs.Working.PackageFields.{wrong_kind, fault_on}
 
 not_before : (n k l : ℕ) → l ≤ k → (nat_lt n n || n == n && nat_lt k l) ≡ false
@@ -28,12 +30,12 @@ pub lesser_on_line : (n : ℕ) (k l : Kind) → rank k ≤ rank l → lesser (So
 lesser_on_line n k l le = ap (λ b. Some (if b then record { line = n; kind = l } else record { line = n; kind = k })) (not_before n (rank l) (rank k) le)
 
 -- what is wrong with a package's property: it is repeated, or else it isn't declared or not of its type
-pub package_property : (n : ℕ) (again : Bool) (test : Option Test) (text : List ℕ)
-    → least (fault_if (again && true) n E7 ++ fault_if (is_none test) n E8 ++ fault_if (fails test text) n E9 ++ [])
-    ≡ fault_on n (if again then Some E7 else wrong_kind test text)
+pub package_property : (n : ℕ) (again : Bool) (kind : Option PlainType) (text : List ℕ)
+    → least (fault_if (again && true) n E7 ++ fault_if (is_none kind) n E8 ++ fault_if (is_mistyped kind text) n E9 ++ [])
+    ≡ fault_on n (if again then Some E7 else wrong_kind (option_map type_test kind) text)
 package_property n true None text = lesser_on_line n E7 E8 (omega arith)
 package_property n false None text = refl
-package_property n again (Some test) text = by again (test text)
+package_property n again (Some kind) text = by again (is_of_type kind (trim text))
   where
     by : (a b : Bool) → least (fault_if (a && true) n E7 ++ [] ++ fault_if (not b) n E9 ++ []) ≡ fault_on n (if a then Some E7 else (if b then None else Some E9))
     by true true = refl

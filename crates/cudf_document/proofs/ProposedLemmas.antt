@@ -11,9 +11,9 @@ use Rattle.cudf_document.specs.Faults.{lesser, least}
 use Rattle.cudf_problem.specs.Ids.{Id}
 use Rattle.cudf_problem.specs.Promises.Statuses.{installed_with, installed_of, installed_stanzas}
 use Rattle.cudf_problem.specs.Promises.Views.{unknown_view}
-use Rattle.cudf_document.specs.SolutionFaults.{solution_stanza_faults, names_with, repeated_pairs_faults, solution_faults}
-use Rattle.cudf_problem.specs.Statuses.{installed_id, installed_ids}
-use Rattle.cudf_document.specs.Working.Extras.{AreExtras}
+use Rattle.cudf_document.specs.SolutionFaults.{solution_stanza_faults, repeated_pairs_faults, solution_faults}
+use Rattle.cudf_problem.specs.Statuses.{installed_id}
+use Rattle.cudf_document.specs.Working.Extras.{AreExtras, names_with}
 use Rattle.cudf_document.specs.Working.Pairs.{ArePairs}
 use Rattle.cudf_document.specs.Working.Placed.{pair_of}
 use Rattle.cudf_document.specs.Working.Proposed.{IsRead, GoesOn}
@@ -36,6 +36,9 @@ installed-push seen s =
     ∙ ap (λ l. installed_stanzas seen ++ l) (sym (as_list (option_map (installed_with (1 + length seen) s.line) (installed_id s))))
 
 -- their pairs
+abbrev pub installed_ids : List PlainStanza → List Id
+installed_ids stanzas = filter_map installed_id stanzas
+
 pub installed_pairs : (n : ℕ) (stanzas : List PlainStanza) → installed_ids stanzas ≡ map pair_of (filter_map installed_of (enumerate_from n stanzas))
 installed_pairs n [] = refl
 installed_pairs n (s ∷ stanzas) = by (installed_id s) (installed_pairs (n + 1) stanzas)

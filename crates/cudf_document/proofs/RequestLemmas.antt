@@ -6,8 +6,8 @@ use Rattle.cudf_text.specs.Stanzas.{PlainProperty}
 use Rattle.cudf_problem.specs.declared.postmark.Postmark.TheVariants.{Request as RequestMark}
 use Rattle.cudf_document.specs.Faults.{least}
 use Rattle.cudf_problem.specs.Documents.{value_of}
-use Rattle.cudf_document.specs.Working.Judging.{same_name, fails}
-use Rattle.cudf_document.specs.Working.Tests.{request_tests}
+use Rattle.cudf_document.specs.Working.Judging.{same_name, fails, is_mistyped}
+use Rattle.cudf_problem.specs.Values.{request_types}
 use Rattle.cudf_document.specs.Working.Reads.{list_value}
 use Rattle.cudf_value.specs.Parts.{look_up}
 use Rattle.cudf_document.specs.ProblemFaults.{property_faults}
@@ -20,8 +20,10 @@ use Rattle.cudf_document.proofs.PropertyLemmas.{request_property}
 abbrev words : List (List ℕ)
 words = codes "install" ∷ codes "remove" ∷ codes "upgrade" ∷ []
 
-pub test_of-request : (name : List ℕ) → look_up name request_tests ≡ request_property_test (request_property_named name)
-test_of-request name = by_words (λ n. look_up n request_tests ≡ request_property_test (request_property_named n)) words name refl refl refl (λ a b c. simp (a, b, c))
+-- a value isn't of the type of its name where it fails the test of its property
+mistyped_request : (name text : List ℕ) → is_mistyped (look_up name request_types) text ≡ fails (request_property_test (request_property_named name)) text
+mistyped_request name text =
+    by_words (λ n. is_mistyped (look_up n request_types) text ≡ fails (request_property_test (request_property_named n)) text) words name refl refl refl (λ a b c. simp (a, b, c))
 
 -- the lists, each with what a text says of it, where the name is its own
 abbrev says : List PlainProperty → List ℕ → List ℕ → PlainRequestFields
@@ -56,8 +58,8 @@ request_fields_of-next ps p = by (list_any (same_name p) ps) refl
 pub request_fault : (ps : List PlainProperty) (names : List (List ℕ)) (p : PlainProperty) → AreNames names ps
     → fault_on p.line (request_kind_after names p) ≡ least (property_faults [] (Some RequestMark) (ps, p))
 request_fault ps names p names_are =
-    ap (fault_on p.line) (λ i. if names_are p.name i then Some E7 else (if fails (sym (test_of-request p.name) i) p.value then Some E9 else None))
-    ∙ sym (request_property p.line (list_any (same_name p) ps) (fails (look_up p.name request_tests) p.value))
+    ap (fault_on p.line) (λ i. if names_are p.name i then Some E7 else (if sym (mistyped_request p.name p.value) i then Some E9 else None))
+    ∙ sym (request_property p.line (list_any (same_name p) ps) (is_mistyped (look_up p.name request_types) p.value))
 
 -- what it asks for
 pub asked_next : (ps : List PlainProperty) (names : List (List ℕ)) (fields : PlainRequestFields) (p : PlainProperty) (more : List PlainProperty) (new_fields : PlainRequestFields)

@@ -1,5 +1,5 @@
 -- The values of a solution's package.
-use Rattle.std.proofs.Common.{◌≡◌, ℕ, Bool, true, false, not, ◌||◌, ◌&&◌, List, [], ◌∷◌, ◌++◌, Option, None, Some, is_some, refl, sym, ap, ◌∙◌, if◌then◌else◌, bytes_eq, codes}
+use Rattle.std.proofs.Common.{◌≡◌, ℕ, Bool, true, false, not, ◌||◌, ◌&&◌, List, [], ◌∷◌, ◌++◌, Option, None, Some, is_some, option_map, refl, sym, ap, ◌∙◌, if◌then◌else◌, bytes_eq, codes}
 use Rattle.std.proofs.Math.Bool.{or-true, or-false, and-false}
 use Rattle.std.proofs.lemmas.List.Folds.{list_any-append}
 use Rattle.std.specs.List.{list_any, flat_map}
@@ -8,19 +8,20 @@ use Rattle.cudf_text.specs.declared.fault.Kind.TheVariants.{E7, E9}
 use Rattle.cudf_text.specs.Stanzas.{PlainProperty}
 use Rattle.cudf_document.specs.Faults.{lesser, least, fault_if}
 use Rattle.cudf_problem.specs.Documents.{with_earlier, has_name, value_of}
-use Rattle.cudf_document.specs.Working.Judging.{same_name}
+use Rattle.cudf_document.specs.Working.Judging.{same_name, fails, is_mistyped}
 use Rattle.cudf_value.specs.Parts.{look_up}
-use Rattle.cudf_problem.specs.Values.{Test, name_value, truth_value}
+use Rattle.cudf_value.specs.Types.{PlainType}
+use Rattle.cudf_problem.specs.Values.{name_value, truth_value}
 use Rattle.cudf_document.specs.Working.Reads.{version_value}
-use Rattle.cudf_document.specs.ProblemFaults.{repeats, mistyped_faults}
-use Rattle.cudf_document.specs.SolutionFaults.{value_faults}
-use Rattle.cudf_document.specs.Working.Tests.{read_tests}
+use Rattle.cudf_document.specs.ProblemFaults.{repeats}
+use Rattle.cudf_document.specs.SolutionFaults.{solution_types, value_faults}
+use Rattle.cudf_document.specs.Working.Tests.{Test, type_test, read_tests}
 use Rattle.cudf_document.specs.Working.PackageFields.{fault_on}
 use Rattle.cudf_document.specs.Working.SolutionPackages.{PlainSolutionPackage, solution_property_named, solution_package_of, with_solution_property, solution_kind}
 use Rattle.cudf_document.proofs.FaultLemmas.{faults-next}
 use Rattle.cudf_document.proofs.NameLemmas.{by_words, bytes_same, has_same_name, value_next, value_of-repeated}
 use Rattle.cudf_document.proofs.PropertyLemmas.{counted_property}
-use Rattle.cudf_document.proofs.TestLemmas.{read_tests-are}
+use Rattle.cudf_document.proofs.TestLemmas.{looked_up, read_tests-are}
 
 abbrev words : List (List ℕ)
 words = codes "package" ∷ codes "version" ∷ codes "installed" ∷ []
@@ -72,15 +73,21 @@ solution_package_of-next ps p = with_solution_property-says ps p.value p.name �
   installed = value_after truth_value (codes "installed") ps p i;
 })
 
--- the faults of a property, where the properties that count have to be so
-abbrev faults_by : List (List ℕ × Test) → List PlainProperty → PlainProperty → List Fault
-faults_by known before p = fault_if (repeats before p && is_some (look_up p.name known)) p.line E7 ++ mistyped_faults known p
+-- the faults of a property, where it has to pass a test if it counts
+abbrev faults_by : Option Test → List PlainProperty → PlainProperty → List Fault
+faults_by test before p = fault_if (repeats before p && is_some test) p.line E7 ++ fault_if (fails test p.value) p.line E9
+
+-- where the test is that of its type
+faults_by-type : (kind : Option PlainType) (before : List PlainProperty) (p : PlainProperty)
+    → faults_by (option_map type_test kind) before p ≡ fault_if (repeats before p && is_some kind) p.line E7 ++ fault_if (is_mistyped kind p.value) p.line E9
+faults_by-type None before p = refl
+faults_by-type (Some kind) before p = refl
 
 -- the fault of a property, by what was said before it
 fault_by : (ps : List PlainProperty) (line : ℕ) (value : List ℕ) (name : List ℕ)
-    → fault_on line (solution_kind (solution_property_named name) value (solution_package_of ps)) ≡ least (faults_by read_tests ps (record { line = line; name = name; value = value }))
+    → fault_on line (solution_kind (solution_property_named name) value (solution_package_of ps)) ≡ least (faults_by (look_up name read_tests) ps (record { line = line; name = name; value = value }))
 fault_by ps line value name =
-    by_words (λ n. fault_on line (solution_kind (solution_property_named n) value (solution_package_of ps)) ≡ least (faults_by read_tests ps (record { line = line; name = n; value = value }))) words name
+    by_words (λ n. fault_on line (solution_kind (solution_property_named n) value (solution_package_of ps)) ≡ least (faults_by (look_up n read_tests) ps (record { line = line; name = n; value = value }))) words name
     (known (codes "package") (is_some (name_value value))) (known (codes "version") (is_some (version_value value))) (known (codes "installed") (is_some (truth_value value)))
     (λ a b c. simp (a, b, c, and-false))
   where
@@ -93,7 +100,10 @@ fault_by ps line value name =
 counted_fault : (ps : List PlainProperty) (line : ℕ) (value : List ℕ) (name : List ℕ)
     → fault_on line (solution_kind (solution_property_named name) value (solution_package_of ps)) ≡ least (value_faults (ps, record { line = line; name = name; value = value }))
 counted_fault ps line value name =
-    fault_by ps line value name ∙ ap (λ known. least (faults_by known ps (record { line = line; name = name; value = value }))) (sym read_tests-are)
+    let p : PlainProperty = record { line = line; name = name; value = value } in
+    fault_by ps line value name
+    ∙ ap (λ test. least (faults_by test ps p)) (ap (look_up name) (sym read_tests-are) ∙ looked_up name solution_types)
+    ∙ ap least (faults_by-type (look_up name solution_types) ps p)
 
 -- what is known of the properties so far
 pub record IsEnteredTo (ps : List PlainProperty) (first : Option Fault) (entry : PlainSolutionPackage) : Type 0 where

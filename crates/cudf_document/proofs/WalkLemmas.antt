@@ -10,11 +10,11 @@ use Rattle.cudf_problem.specs.declared.mode.Mode.{Mode}
 use Rattle.cudf_problem.specs.declared.mode.Mode.TheVariants.{Lenient, Strict}
 use Rattle.cudf_document.specs.declared.problem.walk.Walk.{Walk}
 use Rattle.cudf_problem.specs.declared.postmark.Postmark.{Postmark}
-use Rattle.cudf_problem.specs.declared.postmark.Postmark.TheVariants.{Preamble, Package}
+use Rattle.cudf_problem.specs.declared.postmark.Postmark.TheVariants.{Preamble, Package, Request}
 use Rattle.cudf_document.specs.Faults.{lesser, least, fault_if}
 use Rattle.cudf_text.specs.declared.fault.Kind.TheVariants.{E13}
 use Rattle.std.proofs.lemmas.List.{append_assoc, append-nil}
-use Rattle.cudf_problem.specs.Documents.{is_empty, with_earlier, postmark, is_request, marks_preamble, marks_request}
+use Rattle.cudf_problem.specs.Documents.{is_empty, with_earlier, postmark, is_request, marks}
 use Rattle.cudf_problem.specs.Ids.{is_id, id_of}
 use Rattle.cudf_problem.specs.Preamble.{declared}
 use Rattle.cudf_problem.specs.Promises.Packages.{is_preamble, packages_in}
@@ -48,7 +48,7 @@ pub IsKnown-next : (mode : Mode) (required : List (List ℕ)) (old new : Walk) (
     → is_first ≡ is_empty before → old.declarations ≡ declared before → required ≡ required_names mode (declared before) → IsKnown mode old before → mark ≡ postmark s
     → place ≡ least (placed_faults is_first old.requested mark s.line) → inside ≡ least (judged_faults mark required old.declarations old.ids s)
     → stray ≡ least (misplaced_faults mode (problem_misplaces mark) s.properties)
-    → new.first ≡ lesser old.first (option_or place (lesser inside stray)) → new.ids ≡ judged_ids mark old.ids s → new.requested ≡ (marks_request mark || old.requested)
+    → new.first ≡ lesser old.first (option_or place (lesser inside stray)) → new.ids ≡ judged_ids mark old.ids s → new.requested ≡ (marks Request mark || old.requested)
     → IsKnown mode new (before ++ s ∷ [])
 IsKnown-next mode required old new before s mark is_first place inside stray first ds required_are so_far marked place_is inside_is stray_is first_is ids_are requested =
     let g = as_builder old before in
@@ -66,8 +66,8 @@ IsKnown-next mode required old new before s mark is_first place inside stray fir
           ∙ (IsBuilt-next g before s builder mark is_first (sym marked) first).ids_are id;
       listed_are = ids_are ∙ ids_inside mark is_first old before s ∙ listed_next mark is_first s g so_far.listed_are
           ∙ ap (λ l. first_ids [] (map package_id l)) (IsBuilt-next g before s builder mark is_first (sym marked) first).packages_are;
-      requested_is = requested ∙ or_comm (marks_request mark) old.requested
-          ∙ (λ i. so_far.requested_is i || (ap marks_request marked ∙ sym (or-false (is_request s))) i)
+      requested_is = requested ∙ or_comm (marks Request mark) old.requested
+          ∙ (λ i. so_far.requested_is i || (ap (marks Request) marked ∙ sym (or-false (is_request s))) i)
           ∙ sym (list_any-append is_request before (s ∷ []));
     }
 
@@ -80,7 +80,7 @@ required_none Lenient = refl
 required_none Strict = refl
 
 -- a preamble that is first
-preamble_mark : (mark : Option Postmark) → marks_preamble mark ≡ true → mark ≡ Some Preamble
+preamble_mark : (mark : Option Postmark) → marks Preamble mark ≡ true → mark ≡ Some Preamble
 preamble_mark (Some Preamble) h = refl
 preamble_mark _ h = absurd cc
 

@@ -6,8 +6,8 @@ ghost use Rattle.cudf_value.specs.Promises.Types.{type_view, declaration_view};
 ghost use Rattle.cudf_document.specs.Working.Tests.{declared_test};
 ghost use Rattle.cudf_value.specs.Parts.{look_up};
 ghost use Rattle.cudf_document.specs.ProblemFaults.{required_names};
-ghost use Rattle.cudf_document.specs.Working.Judging.{name_without_default, all_declarable};
-ghost use Rattle.cudf_problem.specs.Preamble.{reserved_names, is_declared, is_declarable, declared_by, recommends_in, recommends_default};
+ghost use Rattle.cudf_document.specs.Working.Judging.{name_without_default, all_declarable, is_declared};
+ghost use Rattle.cudf_problem.specs.Preamble.{reserved_names, is_declarable, declared_by, recommends_in, recommends_default};
 ghost use Rattle.cudf_document.specs.Working.PackageFields.{wrong_kind};
 
 pub(crate) mod declared;

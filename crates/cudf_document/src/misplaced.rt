@@ -1,10 +1,12 @@
 //! Properties whose names have no meaning in their stanzas, which strictly are faults (own).
-ghost use Rattle.std.specs.Prelude.{◌≡◌, Some, bytes_eq};
-ghost use Rattle.std.specs.List.{list_any, flat_map};
+ghost use Rattle.std.specs.Prelude.{◌≡◌, ◌||◌, Some, is_some, bytes_eq, codes};
+ghost use Rattle.std.specs.List.{flat_map};
 ghost use Rattle.cudf_text.specs.declared.fault.Kind.TheVariants.{E16};
 ghost use Rattle.cudf_text.specs.Promises.Views.{stanza_view};
+ghost use Rattle.cudf_value.specs.Parts.{look_up};
+ghost use Rattle.cudf_problem.specs.Values.{request_types};
 ghost use Rattle.cudf_document.specs.Faults.{least, fault_if};
-ghost use Rattle.cudf_document.specs.ProblemFaults.{is_reserved_but, request_names, problem_misplaces, misplaced_faults};
+ghost use Rattle.cudf_document.specs.ProblemFaults.{is_reserved_but, problem_misplaces, misplaced_faults};
 ghost use Rattle.cudf_document.specs.SolutionFaults.{solution_misplaces};
 ghost use Rattle.cudf_document.specs.Working.Misplaced.{misplaces};
 
@@ -114,7 +116,7 @@ fn is_reserved_but(own: &str, name: &str) -> bool
 
 /// Whether a property of a request may have the name.
 fn is_of_request(name: &str) -> bool
-    ensures { result ≡ list_any (bytes_eq name.now) request_names }
+    ensures { result ≡ (bytes_eq name.now (codes "request") || is_some (look_up name.now request_types)) }
 {
     matches!(name, "request" | "install" | "remove" | "upgrade")
 }

@@ -7,7 +7,7 @@ use Rattle.std.specs.Option.{option_map_or}
 use Rattle.cudf_text.specs.Stanzas.{PlainStanza}
 use Rattle.cudf_problem.specs.Ids.{Id, is_among}
 use Rattle.cudf_problem.specs.Universe.{PlainPackage, PlainProblem, package_id, package_at}
-use Rattle.cudf_problem.specs.Statuses.{PlainUnknown, installed_id, unknown_with, unknown_of, unknown_stanzas, ascend_above}
+use Rattle.cudf_problem.specs.Statuses.{PlainUnknown, installed_id, unknown_of, unknown_stanzas, ascend_above}
 use Rattle.cudf_problem.specs.Promises.Statuses.{are_outside}
 
 -- a place with a package is one of the universe
@@ -29,6 +29,11 @@ within_universe test problem place there = by (place == 0) refl there
     by false is h = found is (slice_get problem.packages (place - 1)) refl h
 
 -- ---- unknown stanzas
+
+-- a stanza that installs the pair, where that isn't in the universe
+abbrev pub unknown_with : PlainProblem → ℕ → ℕ → Id → Option PlainUnknown
+unknown_with problem n line id = if is_among (map package_id problem.packages) id then None
+    else Some (record { stanza = n; line = line; name = id.0; version = id.1 })
 
 abbrev unknown_from : PlainProblem → ℕ → List PlainStanza → List PlainUnknown
 unknown_from problem n stanzas = filter_map (unknown_of problem) (enumerate_from n stanzas)

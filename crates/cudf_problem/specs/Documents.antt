@@ -1,6 +1,5 @@
 -- Stanzas, by their first property, and the properties in them: CUDF 2.0, syntax of stanzas and properties.
 use Rattle.std.specs.Prelude.{ℕ, Bool, true, false, List, [], ◌∷◌, ◌++◌, Option, Some, find, slice_get, option_and_then, bytes_eq, codes}
-use Rattle.std.specs.Option.{option_map_or}
 use Rattle.cudf_text.specs.Stanzas.{PlainProperty, PlainStanza}
 use Rattle.cudf_value.specs.Parts.{look_up}
 use Rattle.cudf_problem.specs.declared.postmark.Postmark.{Postmark}
@@ -26,20 +25,15 @@ postmark_named name = look_up name ((codes "preamble", Preamble) ∷ (codes "pac
 abbrev pub postmark : PlainStanza → Option Postmark
 postmark s = option_and_then (λ p. postmark_named p.name) (slice_get s.properties 0)
 
-abbrev pub marks_preamble : Option Postmark → Bool
-marks_preamble (Some Preamble) = true
-marks_preamble _ = false
-
-abbrev pub marks_package : Option Postmark → Bool
-marks_package (Some Package) = true
-marks_package _ = false
-
-abbrev pub marks_request : Option Postmark → Bool
-marks_request (Some Request) = true
-marks_request _ = false
+-- the postmark is this one
+abbrev pub marks : Postmark → Option Postmark → Bool
+marks Preamble (Some Preamble) = true
+marks Package (Some Package) = true
+marks Request (Some Request) = true
+marks _ _ = false
 
 abbrev pub is_request : PlainStanza → Bool
-is_request s = marks_request (postmark s)
+is_request s = marks Request (postmark s)
 
 -- ---- properties
 
@@ -49,7 +43,3 @@ has_name name p = bytes_eq p.name name
 -- what the first property of this name says; later ones say nothing (own)
 abbrev pub value_of : {A : Type 0} → (List ℕ → Option A) → List ℕ → List PlainProperty → Option A
 value_of read name ps = option_and_then (λ p. read p.value) (find (has_name name) ps)
-
--- the line of the first property of this name, or 0
-abbrev pub line_of : Option PlainProperty → ℕ
-line_of p = option_map_or (λ q. q.line) p 0

@@ -5,7 +5,8 @@ use Rattle.std.specs.Option.{option_map_or, option_zip}
 use Rattle.cudf_text.specs.Stanzas.{PlainStanza}
 use Rattle.cudf_value.specs.Parts.{trimmed}
 use Rattle.cudf_value.specs.Numbers.{positive}
-use Rattle.cudf_problem.specs.Documents.{postmark, marks_package, value_of}
+use Rattle.cudf_problem.specs.declared.postmark.Postmark.TheVariants.{Package}
+use Rattle.cudf_problem.specs.Documents.{postmark, marks, value_of}
 use Rattle.cudf_problem.specs.Values.{name_value}
 
 abbrev pub Id : Type 0
@@ -24,5 +25,5 @@ is_known ids id = option_map_or (is_among ids) id false
 
 -- the name and the version of a package stanza, where both are of their types
 abbrev pub id_of : PlainStanza → Option Id
-id_of s = if marks_package (postmark s)
+id_of s = if marks Package (postmark s)
     then option_zip (value_of name_value (codes "package") s.properties) (value_of (trimmed positive) (codes "version") s.properties) else None

@@ -7,37 +7,30 @@ use Rattle.cudf_value.specs.Parts.{some_if, trimmed}
 use Rattle.cudf_value.specs.Formulas.{PlainAtom, formula}
 use Rattle.cudf_value.specs.Types.{PlainType, word_type, enum_type}
 use Rattle.cudf_value.specs.Declarations.{PlainDeclaration, declarations}
-use Rattle.cudf_problem.specs.Documents.{with_earlier, has_name, postmark, marks_preamble}
+use Rattle.cudf_problem.specs.declared.postmark.Postmark.TheVariants.{Preamble}
+use Rattle.cudf_problem.specs.Documents.{with_earlier, has_name, postmark, marks}
 
 -- the names that can't be declared (own)
 abbrev pub reserved_names : List (List ℕ)
 reserved_names = codes "package" ∷ codes "version" ∷ codes "depends" ∷ codes "conflicts" ∷ codes "provides" ∷ codes "installed"
     ∷ codes "was-installed" ∷ codes "keep" ∷ codes "preamble" ∷ codes "request" ∷ []
 
--- the name has a declaration among these
-abbrev pub is_declared : List PlainDeclaration → List ℕ → Bool
-is_declared ds name = list_any (λ d. bytes_eq name d.name) ds
-
 -- a declaration that is allowed after these: of a name that is neither reserved nor declared before
 abbrev pub is_declarable : List PlainDeclaration × PlainDeclaration → Bool
-is_declarable (before, d) = not (list_any (bytes_eq d.name) reserved_names || is_declared before d.name)
+is_declarable (before, d) = not (list_any (bytes_eq d.name) reserved_names || list_any (λ e. bytes_eq d.name e.name) before)
 
 -- what a `property` value declares after those before, where each is allowed after those and after the ones before it in the value
 abbrev pub declared_by : List PlainDeclaration → List ℕ → Option (List PlainDeclaration)
 declared_by before text = option_and_then (λ ds. some_if (list_all is_declarable (with_earlier before ds)) ds) (declarations (trim text))
 
--- what a property of the preamble adds to those before: a bad declaration adds nothing
-abbrev pub added_by : List PlainDeclaration → PlainProperty → List PlainDeclaration
-added_by before p = if has_name (codes "property") p then unwrap_or (declared_by before p.value) [] else []
-
--- those before, and those that the properties add, on several lines too (own)
+-- those before, and those that the properties of the preamble add, on several lines too (own): a bad declaration adds nothing
 abbrev pub declared_after : List PlainDeclaration → List PlainProperty → List PlainDeclaration
-declared_after before ps = fold (λ ds p. ds ++ added_by ds p) before ps
+declared_after before ps = fold (λ ds p. ds ++ (if has_name (codes "property") p then unwrap_or (declared_by ds p.value) [] else [])) before ps
 
 -- what a document declares: what its first stanza does, where that is a preamble
 abbrev pub declared : List PlainStanza → List PlainDeclaration
 declared [] = []
-declared (s ∷ ss) = if marks_preamble (postmark s) then declared_after [] s.properties else []
+declared (s ∷ ss) = if marks Preamble (postmark s) then declared_after [] s.properties else []
 
 -- the names of the extra properties that a document declares
 abbrev pub declared_names : List PlainStanza → List (List ℕ)

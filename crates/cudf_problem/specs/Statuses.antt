@@ -16,12 +16,9 @@ is_initial problem place = option_map_or (λ p. p.installed) (package_at problem
 abbrev pub installed_id : PlainStanza → Option Id
 installed_id s = if unwrap_or (value_of truth_value (codes "installed") s.properties) false then id_of s else None
 
-abbrev pub installed_ids : List PlainStanza → List Id
-installed_ids stanzas = filter_map installed_id stanzas
-
 -- the solution installs the pair of the package at the place
 abbrev pub is_proposed : PlainProblem → List PlainStanza → ℕ → Bool
-is_proposed problem stanzas place = option_map_or (λ p. is_among (installed_ids stanzas) (package_id p)) (package_at problem place) false
+is_proposed problem stanzas place = option_map_or (λ p. is_among (filter_map installed_id stanzas) (package_id p)) (package_at problem place) false
 
 -- a stanza that installs a pair which isn't in the universe, by its number among all stanzas (own)
 pub record PlainUnknown : Type 0 where
@@ -30,12 +27,10 @@ pub record PlainUnknown : Type 0 where
   pub name : List ℕ
   pub version : ℕ
 
-abbrev pub unknown_with : PlainProblem → ℕ → ℕ → Id → Option PlainUnknown
-unknown_with problem n line (name, version) = if is_among (map package_id problem.packages) (name, version) then None
-    else Some (record { stanza = n; line = line; name = name; version = version })
-
+-- a stanza with its number, where it installs such a pair
 abbrev pub unknown_of : PlainProblem → ℕ × PlainStanza → Option PlainUnknown
-unknown_of problem (n, s) = option_and_then (unknown_with problem n s.line) (installed_id s)
+unknown_of problem (n, s) = option_and_then (λ id. if is_among (map package_id problem.packages) id then None
+    else Some (record { stanza = n; line = s.line; name = id.0; version = id.1 })) (installed_id s)
 
 abbrev pub unknown_stanzas : PlainProblem → List PlainStanza → List PlainUnknown
 unknown_stanzas problem stanzas = filter_map (unknown_of problem) (enumerate_from 1 stanzas)

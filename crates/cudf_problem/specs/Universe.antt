@@ -1,7 +1,7 @@
 -- The packages and the request that a problem describes: CUDF 2.0, universes, package and request properties with their defaults.
 -- These definitions mean something only for a well-formed problem; for any other they have a value that nothing uses.
 use Rattle.std.specs.Prelude.{ℕ, ◌-◌, ◌==◌, Bool, false, List, [], Option, None, is_some, find, filter_map, slice_get, unwrap_or, option_map, codes, if◌then◌else◌}
-use Rattle.cudf_text.specs.Stanzas.{PlainProperty, PlainStanza, PlainText}
+use Rattle.cudf_text.specs.Stanzas.{PlainStanza, PlainText}
 use Rattle.cudf_value.specs.Parts.{trimmed}
 use Rattle.cudf_value.specs.Vpkgs.{PlainVpkg}
 use Rattle.cudf_value.specs.Formulas.{PlainAtom, formula, vpkglist, veqpkglist}
@@ -30,24 +30,20 @@ pub record PlainPackage : Type 0 where
 abbrev pub package_id : PlainPackage → Id
 package_id p = (p.name, p.version)
 
--- the package of this name and version, with the values of its other properties or their defaults; it has `recommends`
--- of its own where that is declared to be a formula
-abbrev pub package_with : List PlainDeclaration → ℕ → List PlainProperty → Id → PlainPackage
-package_with ds line ps (name, version) = record {
-  line = line;
-  name = name;
-  version = version;
-  depends = unwrap_or (value_of (trimmed formula) (codes "depends") ps) [];
-  conflicts = unwrap_or (value_of (trimmed vpkglist) (codes "conflicts") ps) [];
-  provides = unwrap_or (value_of (trimmed veqpkglist) (codes "provides") ps) [];
-  installed = unwrap_or (value_of truth_value (codes "installed") ps) false;
-  keep = unwrap_or (value_of keep_value (codes "keep") ps) Nothing;
-  recommends = if is_some (recommends_in ds) then value_of (trimmed formula) (codes "recommends") ps else None;
-}
-
--- the package that a stanza describes, if it is a package stanza with a name and a version
+-- the package that a stanza describes, if it is a package stanza with a name and a version, with the values of its other
+-- properties or their defaults; it has `recommends` of its own where that is declared to be a formula
 abbrev pub package_of : List PlainDeclaration → PlainStanza → Option PlainPackage
-package_of ds s = option_map (package_with ds s.line s.properties) (id_of s)
+package_of ds s = option_map (λ id. record {
+  line = s.line;
+  name = id.0;
+  version = id.1;
+  depends = unwrap_or (value_of (trimmed formula) (codes "depends") s.properties) [];
+  conflicts = unwrap_or (value_of (trimmed vpkglist) (codes "conflicts") s.properties) [];
+  provides = unwrap_or (value_of (trimmed veqpkglist) (codes "provides") s.properties) [];
+  installed = unwrap_or (value_of truth_value (codes "installed") s.properties) false;
+  keep = unwrap_or (value_of keep_value (codes "keep") s.properties) Nothing;
+  recommends = if is_some (recommends_in ds) then value_of (trimmed formula) (codes "recommends") s.properties else None;
+}) (id_of s)
 
 -- ---- the request
 

@@ -1,9 +1,8 @@
 -- The types of the properties that CUDF knows: CUDF 2.0, package and request properties.
 use Rattle.std.specs.Prelude.{ℕ, Bool, List, [], ◌∷◌, map, Option, codes}
-use Rattle.cudf_text.specs.Chars.{trim}
 use Rattle.cudf_value.specs.Parts.{some_if, trimmed, look_up}
 use Rattle.cudf_value.specs.Words.{truth, is_pkgname}
-use Rattle.cudf_value.specs.Types.{PlainType, word_type, enum_type, is_of_type}
+use Rattle.cudf_value.specs.Types.{PlainType, word_type, enum_type}
 use Rattle.cudf_problem.specs.declared.package.Keep.{Keep}
 use Rattle.cudf_problem.specs.declared.package.Keep.TheVariants.{Version, Package, Feature, Nothing}
 
@@ -15,8 +14,12 @@ name_value = trimmed (λ text. some_if (is_pkgname text) text)
 abbrev pub truth_value : List ℕ → Option Bool
 truth_value = trimmed truth
 
+-- the values of `keep`, by their words
+abbrev pub keep_words : List (List ℕ × Keep)
+keep_words = (codes "version", Version) ∷ (codes "package", Package) ∷ (codes "feature", Feature) ∷ (codes "none", Nothing) ∷ []
+
 abbrev pub keep_value : List ℕ → Option Keep
-keep_value = trimmed (λ text. look_up text ((codes "version", Version) ∷ (codes "package", Package) ∷ (codes "feature", Feature) ∷ (codes "none", Nothing) ∷ []))
+keep_value = trimmed (λ text. look_up text keep_words)
 
 -- ---- what a value has to be
 
@@ -29,18 +32,10 @@ package_types =
     ∷ (codes "conflicts", word_type (codes "vpkglist"))
     ∷ (codes "provides", word_type (codes "veqpkglist"))
     ∷ (codes "installed", word_type (codes "bool"))
-    ∷ (codes "keep", enum_type (codes "version" ∷ codes "package" ∷ codes "feature" ∷ codes "none" ∷ []))
+    ∷ (codes "keep", enum_type (map (λ row. row.0) keep_words))
     ∷ (codes "was-installed", word_type (codes "string"))
     ∷ []
 
 -- the properties of a request that count
 abbrev pub request_types : List (List ℕ × PlainType)
 request_types = map (λ name. (name, word_type (codes "vpkglist"))) (codes "install" ∷ codes "remove" ∷ codes "upgrade" ∷ [])
-
--- the values of a type
-abbrev pub Test : Type 0
-Test = List ℕ → Bool
-
--- what a property of a type has to be
-abbrev pub test_of : List ℕ × PlainType → List ℕ × Test
-test_of (name, kind) = (name, λ text. is_of_type kind (trim text))

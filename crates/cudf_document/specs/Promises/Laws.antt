@@ -12,8 +12,8 @@ use Rattle.cudf_document.specs.Faults.{least}
 use Rattle.cudf_problem.specs.Promises.Packages.{is_package, packages_in}
 use Rattle.cudf_problem.specs.Documents.{with_earlier, is_request}
 use Rattle.cudf_problem.specs.Preamble.{declared}
-use Rattle.cudf_document.specs.ProblemFaults.{stanza_faults, problem_faults}
-use Rattle.cudf_document.specs.SolutionFaults.{solution_stanza_faults, repeated_pair_faults, solution_faults}
+use Rattle.cudf_document.specs.ProblemFaults.{stanza_faults, problem_faults, repeated_package_faults}
+use Rattle.cudf_document.specs.SolutionFaults.{solution_stanza_faults, solution_faults}
 use Rattle.cudf_document.specs.Details.{stanza_on, property_on}
 use Rattle.cudf_problem.specs.Universe.{package_id, package_of}
 
@@ -82,7 +82,7 @@ IsFoundAt stanzas x f = stanza_on f.line stanzas ≡ Some x
 -- property's line is that property
 pub record AllAreFound (stanzas : List PlainStanza) : Type 0 where
   pub problem : (mode : Mode) → All (λ x. All (IsFoundAt stanzas x) (stanza_faults mode x)) (with_earlier [] stanzas)
-  pub solution : (mode : Mode) (names : List (List ℕ)) → All (λ x. All (IsFoundAt stanzas x) (solution_stanza_faults mode names x.1 ++ repeated_pair_faults x)) (with_earlier [] stanzas)
+  pub solution : (mode : Mode) (names : List (List ℕ)) → All (λ x. All (IsFoundAt stanzas x) (solution_stanza_faults mode names x.1 ++ repeated_package_faults E15 x)) (with_earlier [] stanzas)
   pub property : All (λ x. All (λ y. property_on y.1.line x.1 ≡ Some y) (with_earlier [] x.1.properties)) (with_earlier [] stanzas)
 
 -- so what a document says beside a fault is said of the stanza and of the property that have the fault

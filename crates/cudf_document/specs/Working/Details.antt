@@ -15,9 +15,10 @@ use Rattle.cudf_document.specs.declared.details.found.Passed.{Passed}
 use Rattle.cudf_document.specs.declared.details.found.Found.{Found}
 use Rattle.cudf_problem.specs.Documents.{is_empty, postmark, is_request, has_name}
 use Rattle.cudf_problem.specs.Ids.{Id, id_of, is_known}
-use Rattle.cudf_problem.specs.Preamble.{added_by, declared}
+use Rattle.cudf_problem.specs.Preamble.{declared}
 use Rattle.cudf_document.specs.ProblemFaults.{required_names}
 use Rattle.cudf_document.specs.Details.{PlainDetail, request_on, undeclared, mistyped_as, misdeclared, lacking, misplaced, words, bad_piece, first_detail, repeated_detail}
+use Rattle.cudf_document.specs.Working.Judging.{added_by}
 
 -- ---- what was passed on the way to a stanza
 

@@ -20,9 +20,9 @@ use Rattle.cudf_document.specs.Working.Judging.{is_anything, own_recommends}
 use Rattle.cudf_value.specs.Promises.Views.{list_view}
 use Rattle.cudf_problem.specs.Ids.{Id}
 use Rattle.cudf_value.specs.Types.{can_be}
-use Rattle.cudf_problem.specs.Values.{Test, truth_value, keep_value}
+use Rattle.cudf_problem.specs.Values.{truth_value, keep_value}
 use Rattle.cudf_document.specs.Working.Reads.{formula_value, list_value, exact_list_value}
-use Rattle.cudf_document.specs.Working.Tests.{declared_test}
+use Rattle.cudf_document.specs.Working.Tests.{Test, declared_test}
 use Rattle.cudf_value.specs.Parts.{look_up}
 
 -- ---- fields

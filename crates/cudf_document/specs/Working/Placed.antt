@@ -1,12 +1,12 @@
 -- What a solution proposes, placed in a universe.
-use Rattle.std.specs.Prelude.{◌≡◌, ℕ, List, map, filter_map, Option, IsTrue}
+use Rattle.std.specs.Prelude.{◌≡◌, ℕ, List, map, filter_map, Option, Some, None, IsTrue, if◌then◌else◌}
 use Rattle.std.specs.FinSet as set
 use Rattle.cudf_text.specs.Stanzas.{PlainStanza}
 use Rattle.cudf_problem.specs.declared.solution.Solution.{Solution}
 use Rattle.cudf_document.specs.declared.solution.placed.Placed.{Placed}
 use Rattle.cudf_problem.specs.Ids.{Id, is_among}
 use Rattle.cudf_problem.specs.Universe.{PlainProblem, package_id}
-use Rattle.cudf_problem.specs.Statuses.{PlainUnknown, unknown_with, is_proposed, unknown_stanzas, ascend_above}
+use Rattle.cudf_problem.specs.Statuses.{PlainUnknown, is_proposed, unknown_stanzas, ascend_above}
 use Rattle.cudf_problem.specs.Promises.Statuses.{IsStatusOf, are_outside}
 use Rattle.cudf_problem.specs.Promises.Views.{unknown_view}
 
@@ -20,7 +20,7 @@ pair_of u = (u.name, u.version)
 
 -- the stanza, where its pair isn't in the universe
 abbrev pub if_outside : PlainProblem → PlainUnknown → Option PlainUnknown
-if_outside problem u = unknown_with problem u.stanza u.line (pair_of u)
+if_outside problem u = if is_among (ids_of problem) (pair_of u) then None else Some u
 
 -- flags of the pairs that these stanzas install, and those of them that install another pair
 pub record IsPlaced (problem : PlainProblem) (installed : List PlainUnknown) (p : Placed) : Type 0 where

@@ -1,5 +1,5 @@
 -- What the stanzas of a problem say, while they are read.
-use Rattle.std.specs.Prelude.{◌≡◌, ℕ, Bool, ◌&&◌, List, [], ◌∷◌, ◌++◌, map, filter_map, Option, Some, None, option_map, option_to_list, unwrap_or, is_some, is_none, bytes_eq, codes, if◌then◌else◌}
+use Rattle.std.specs.Prelude.{◌≡◌, ℕ, Bool, ◌&&◌, List, [], ◌∷◌, ◌++◌, map, filter_map, Option, Some, None, option_map, option_to_list, unwrap_or, is_some, is_none, bytes_eq, codes, if◌then◌else◌, false}
 use Rattle.std.specs.List.{list_any}
 use Rattle.indexmap.specs.IndexSet.{insert_key}
 use Rattle.cudf_text.specs.declared.fault.Fault.{Fault}
@@ -9,14 +9,16 @@ use Rattle.cudf_text.specs.Stanzas.{PlainProperty, PlainStanza}
 use Rattle.cudf_value.specs.Declarations.{PlainDeclaration}
 use Rattle.cudf_problem.specs.declared.postmark.Postmark.{Postmark}
 use Rattle.cudf_problem.specs.declared.postmark.Postmark.TheVariants.{Preamble, Package, Request}
+use Rattle.cudf_problem.specs.declared.package.Keep.TheVariants.{Nothing}
 use Rattle.cudf_document.specs.Faults.{fault_if}
-use Rattle.cudf_problem.specs.Documents.{has_name, line_of}
+use Rattle.cudf_problem.specs.Documents.{has_name, value_of}
 use Rattle.cudf_problem.specs.Ids.{Id, is_id, is_among, is_known, id_of}
-use Rattle.cudf_document.specs.Working.Judging.{request_in, id_under, properties_faults}
+use Rattle.cudf_problem.specs.Values.{truth_value, keep_value}
+use Rattle.cudf_document.specs.Working.Judging.{request_in, id_under, properties_faults, line_of, lacks_one, own_recommends, version_property}
+use Rattle.cudf_document.specs.Working.Reads.{formula_value, list_value, exact_list_value}
 use Rattle.cudf_problem.specs.Promises.Packages.{with_id, packages_in}
 use Rattle.cudf_problem.specs.Preamble.{declared_by, declared_after, declared, recommends_default}
-use Rattle.cudf_document.specs.ProblemFaults.{version_property, lacks_one}
-use Rattle.cudf_problem.specs.Universe.{PlainPackage, package_id, package_with, PlainRequest, PlainProblem, request_of}
+use Rattle.cudf_problem.specs.Universe.{PlainPackage, package_id, PlainRequest, PlainProblem, request_of}
 
 -- asks for nothing
 abbrev pub no_request : PlainRequest
@@ -30,6 +32,20 @@ is_bad_declaration before p = has_name (codes "property") p && is_none (declared
 abbrev pub preamble_kind_after : List PlainDeclaration → List (List ℕ) → PlainProperty → Option Kind
 preamble_kind_after ds names p = if has_name (codes "property") p then (if is_bad_declaration ds p then Some E10 else None)
     else (if list_any (bytes_eq p.name) names then Some E7 else None)
+
+-- the package of this name and version, with the values of its other properties or their defaults
+abbrev pub package_with : List PlainDeclaration → ℕ → List PlainProperty → Id → PlainPackage
+package_with ds line ps (name, version) = record {
+  line = line;
+  name = name;
+  version = version;
+  depends = unwrap_or (value_of formula_value (codes "depends") ps) [];
+  conflicts = unwrap_or (value_of list_value (codes "conflicts") ps) [];
+  provides = unwrap_or (value_of exact_list_value (codes "provides") ps) [];
+  installed = unwrap_or (value_of truth_value (codes "installed") ps) false;
+  keep = unwrap_or (value_of keep_value (codes "keep") ps) Nothing;
+  recommends = own_recommends ds ps;
+}
 
 pub record PlainBuilder : Type 0 where
   pub declared : List PlainDeclaration

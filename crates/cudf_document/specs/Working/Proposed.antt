@@ -5,11 +5,11 @@ use Rattle.cudf_text.specs.Stanzas.{PlainStanza, PlainText}
 use Rattle.cudf_problem.specs.declared.mode.Mode.{Mode}
 use Rattle.cudf_document.specs.declared.proposed.reader.Reader.{Reader}
 use Rattle.cudf_document.specs.Faults.{least}
-use Rattle.cudf_document.specs.SolutionFaults.{solution_stanza_faults, names_with, solution_faults}
+use Rattle.cudf_document.specs.SolutionFaults.{solution_stanza_faults, solution_faults}
 use Rattle.cudf_problem.specs.Statuses.{PlainUnknown}
 use Rattle.cudf_problem.specs.Promises.Statuses.{installed_stanzas}
 use Rattle.cudf_problem.specs.Promises.Views.{unknown_view}
-use Rattle.cudf_document.specs.Working.Extras.{AreExtras}
+use Rattle.cudf_document.specs.Working.Extras.{AreExtras, names_with}
 use Rattle.cudf_document.specs.Working.Pairs.{ArePairs}
 
 -- the first fault of these stanzas, where the problem declares these names, the names that are declared, the stanzas' pairs,

@@ -10,8 +10,8 @@ use Rattle.cudf_document.specs.declared.request.lists.RequestProperty.TheVariant
 use Rattle.cudf_document.specs.declared.request.lists.RequestFields.{RequestFields}
 use Rattle.cudf_problem.specs.Documents.{value_of}
 use Rattle.cudf_value.specs.Types.{can_be}
-use Rattle.cudf_problem.specs.Values.{Test}
 use Rattle.cudf_document.specs.Working.Reads.{list_value}
+use Rattle.cudf_document.specs.Working.Tests.{Test}
 use Rattle.cudf_document.specs.Working.Judging.{fails}
 use Rattle.cudf_problem.specs.Universe.{PlainRequest}
 use Rattle.cudf_value.specs.Promises.Views.{list_view}

@@ -1,14 +1,25 @@
 -- What properties have to be, by how their values are read.
-use Rattle.std.specs.Prelude.{ℕ, true, List, [], ◌∷◌, map, codes}
+use Rattle.std.specs.Prelude.{ℕ, Bool, true, List, [], ◌∷◌, map, codes}
 use Rattle.cudf_text.specs.Chars.{trim}
-use Rattle.cudf_value.specs.Types.{can_be, is_of_type}
+use Rattle.cudf_value.specs.Types.{PlainType, can_be, is_of_type}
 use Rattle.cudf_value.specs.Declarations.{PlainDeclaration}
-use Rattle.cudf_problem.specs.Values.{Test, name_value, truth_value, keep_value, request_types, test_of}
+use Rattle.cudf_problem.specs.Values.{name_value, truth_value, keep_value}
 use Rattle.cudf_document.specs.Working.Reads.{version_value, formula_value, list_value, exact_list_value}
+
+-- the values of a type
+abbrev pub Test : Type 0
+Test = List ℕ → Bool
+
+-- what a property of a type has to be
+abbrev pub type_test : PlainType → Test
+type_test kind text = is_of_type kind (trim text)
+
+abbrev pub test_of : List ℕ × PlainType → List ℕ × Test
+test_of (name, kind) = (name, type_test kind)
 
 -- a declared property has to be of its declared type
 abbrev pub declared_test : PlainDeclaration → List ℕ × Test
-declared_test d = (d.name, λ text. is_of_type d.kind (trim text))
+declared_test d = (d.name, type_test d.kind)
 
 -- those of a package
 abbrev pub package_tests : List PlainDeclaration → List (List ℕ × Test)
@@ -22,10 +33,6 @@ package_tests ds =
     ∷ (codes "keep", can_be keep_value)
     ∷ (codes "was-installed", λ text. true)
     ∷ map declared_test ds
-
--- those of a request that count
-abbrev pub request_tests : List (List ℕ × Test)
-request_tests = map test_of request_types
 
 -- and those of a solution's package
 abbrev pub read_tests : List (List ℕ × Test)

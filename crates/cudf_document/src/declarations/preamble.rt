@@ -3,8 +3,8 @@ ghost use Rattle.std.specs.Prelude.{◌≡◌, [], ◌∷◌, ◌++◌, map, byt
 ghost use Rattle.indexmap.specs.IndexSet.{insert_key};
 ghost use Rattle.cudf_text.specs.Promises.Views.{property_view, stanza_view};
 ghost use Rattle.cudf_document.specs.Faults.{least};
-ghost use Rattle.cudf_problem.specs.Preamble.{added_by, declared, declared_after};
-ghost use Rattle.cudf_document.specs.Working.Judging.{properties_faults};
+ghost use Rattle.cudf_problem.specs.Preamble.{declared, declared_after};
+ghost use Rattle.cudf_document.specs.Working.Judging.{properties_faults, added_by};
 ghost use Rattle.cudf_document.specs.Working.PackageFields.{fault_on};
 ghost use Rattle.cudf_document.specs.Working.ProblemBuilders.{preamble_kind_after};
 ghost use Rattle.cudf_problem.specs.declared.postmark.Postmark.TheVariants.{Preamble as PreambleMark};

@@ -5,13 +5,13 @@ ghost use Rattle.cudf_text.specs.Stanzas.{PlainStanza};
 ghost use Rattle.cudf_text.specs.Promises.Views.{stanza_view};
 ghost use Rattle.cudf_text.specs.declared.fault.Kind.TheVariants.{E11, E12};
 ghost use Rattle.cudf_document.specs.Faults.{least, fault_if};
-ghost use Rattle.cudf_problem.specs.Documents.{postmark, marks_preamble, marks_request};
+ghost use Rattle.cudf_problem.specs.Documents.{postmark, marks};
 ghost use Rattle.cudf_document.specs.Working.Judging.{properties_faults, placed_faults};
 ghost use Rattle.cudf_document.specs.Working.Identities.{IsIdentity};
 ghost use Rattle.cudf_document.specs.Working.SeenNames.{AreNames};
 ghost use Rattle.cudf_document.specs.Working.Kept.{AreParts};
 ghost use Rattle.cudf_document.specs.Working.Walks.{texts, IsSoFar, IsWhole};
-ghost use Rattle.cudf_problem.specs.declared.postmark.Postmark.TheVariants.{Preamble as PreambleMark, Package as PackageMark};
+ghost use Rattle.cudf_problem.specs.declared.postmark.Postmark.TheVariants.{Preamble as PreambleMark, Package as PackageMark, Request as RequestMark};
 
 use crate::declarations::Declarations;
 use crate::declarations::preamble::read_preamble;
@@ -340,7 +340,7 @@ fn place_fault(is_first: bool, is_late: bool, mark: Option<Postmark>, line: u64)
 }
 
 fn is_late_preamble(is_first: bool, mark: Option<Postmark>) -> bool
-    ensures { result ≡ (marks_preamble mark && not is_first) }
+    ensures { result ≡ (marks PreambleMark mark && not is_first) }
 {
     matches!(mark, Some(Postmark::Preamble)) && !is_first
 }
@@ -356,7 +356,7 @@ fn judge_preamble(alloc: Global, stanza: &StanzaRef<'_>) -> Result<Option<Fault>
 }
 
 fn is_request(mark: Option<Postmark>) -> bool
-    ensures { result ≡ marks_request mark }
+    ensures { result ≡ marks RequestMark mark }
 {
     matches!(mark, Some(Postmark::Request))
 }

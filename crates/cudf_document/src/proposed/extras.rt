@@ -32,8 +32,8 @@ impl<'p, 'a> Extras<'p, 'a> {
     ghost use Rattle.cudf_problem.specs.declared.mode.Mode.{Mode};
     ghost use Rattle.cudf_problem.specs.declared.postmark.Postmark.TheVariants.{Package as PackageMark};
     ghost use Rattle.cudf_document.specs.Faults.{least, fault_if};
-    ghost use Rattle.cudf_document.specs.SolutionFaults.{undeclared_in_solution, names_with};
-    ghost use Rattle.cudf_document.specs.Working.Extras.{AreExtras, is_extra};
+    ghost use Rattle.cudf_document.specs.SolutionFaults.{undeclared_in_solution};
+    ghost use Rattle.cudf_document.specs.Working.Extras.{AreExtras, is_extra, names_with};
 
     /// Before the first stanza.
     pub(crate) fn new(alloc: Global, mode: Mode, problem: &Problem<'p>) -> Result<Self, AllocError>

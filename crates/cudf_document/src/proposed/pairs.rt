@@ -2,9 +2,8 @@
 ghost use Rattle.std.specs.Prelude.{◌≡◌};
 ghost use Rattle.cudf_text.specs.Promises.Views.{stanza_view};
 ghost use Rattle.cudf_text.specs.declared.fault.Kind.TheVariants.{E15};
-ghost use Rattle.cudf_problem.specs.Documents.{line_of};
 ghost use Rattle.cudf_document.specs.Faults.{least, fault_if};
-ghost use Rattle.cudf_document.specs.ProblemFaults.{version_property};
+ghost use Rattle.cudf_document.specs.Working.Judging.{line_of, version_property};
 
 use crate::fault::{fault_if, keep_lesser};
 use crate::names::first_named;

@@ -5,8 +5,8 @@ ghost use Rattle.cudf_text.specs.Promises.Views.{stanza_view};
 ghost use Rattle.cudf_document.specs.Faults.{least};
 ghost use Rattle.cudf_problem.specs.Ids.{id_of};
 ghost use Rattle.cudf_problem.specs.declared.mode.Mode.{Mode};
-ghost use Rattle.cudf_document.specs.SolutionFaults.{solution_stanza_faults, names_with};
-ghost use Rattle.cudf_document.specs.Working.Extras.{AreExtras};
+ghost use Rattle.cudf_document.specs.SolutionFaults.{solution_stanza_faults};
+ghost use Rattle.cudf_document.specs.Working.Extras.{AreExtras, names_with};
 ghost use Rattle.cudf_problem.specs.Statuses.{installed_id};
 
 use crate::fault::{fault_if, lesser};

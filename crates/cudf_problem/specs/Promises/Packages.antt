@@ -7,7 +7,8 @@ use Rattle.cudf_text.specs.Stanzas.{PlainStanza}
 use Rattle.cudf_value.specs.Formulas.{PlainAtom}
 use Rattle.cudf_problem.specs.Universe.{PlainPackage, PlainProblem, package_of, package_at}
 use Rattle.cudf_problem.specs.Preamble.{declared}
-use Rattle.cudf_problem.specs.Documents.{with_earlier, postmark, marks_preamble, marks_package}
+use Rattle.cudf_problem.specs.declared.postmark.Postmark.TheVariants.{Preamble, Package}
+use Rattle.cudf_problem.specs.Documents.{with_earlier, postmark, marks}
 use Rattle.cudf_problem.specs.Ids.{Id, is_id, is_among}
 
 -- what the package at a place recommends: by itself, or by the declared default
@@ -28,7 +29,7 @@ abbrev pub are_distinct : List Id → Bool
 are_distinct ids = list_all (λ x. not (is_among x.0 x.1)) (with_earlier [] ids)
 
 abbrev pub is_preamble : PlainStanza → Bool
-is_preamble s = marks_preamble (postmark s)
+is_preamble s = marks Preamble (postmark s)
 
 abbrev pub is_package : PlainStanza → Bool
-is_package s = marks_package (postmark s)
+is_package s = marks Package (postmark s)

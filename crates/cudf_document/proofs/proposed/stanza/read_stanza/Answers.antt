@@ -9,9 +9,11 @@ use Rattle.cudf_problem.specs.declared.mode.Mode.{Mode}
 use Rattle.cudf_problem.specs.declared.postmark.Postmark.{Postmark}
 use Rattle.cudf_problem.specs.declared.postmark.Postmark.TheVariants.{Package}
 use Rattle.cudf_document.specs.Faults.{lesser, least, fault_if}
-use Rattle.cudf_problem.specs.Documents.{has_name, with_earlier, postmark, marks_package}
-use Rattle.cudf_document.specs.ProblemFaults.{version_property, misplaced_faults}
-use Rattle.cudf_document.specs.SolutionFaults.{value_faults, values_faults, undeclared_in_solution, names_with, solution_misplaces, solution_stanza_faults}
+use Rattle.cudf_problem.specs.Documents.{has_name, with_earlier, postmark, marks}
+use Rattle.cudf_document.specs.ProblemFaults.{misplaced_faults}
+use Rattle.cudf_document.specs.SolutionFaults.{value_faults, values_faults, undeclared_in_solution, solution_misplaces, solution_stanza_faults}
+use Rattle.cudf_document.specs.Working.Extras.{names_with}
+use Rattle.cudf_document.specs.Working.Judging.{version_property}
 use Rattle.cudf_problem.proofs.ListLemmas.{is_none-find}
 use Rattle.cudf_document.proofs.ExtraLemmas.{nothing_undeclared}
 use Rattle.cudf_document.proofs.FaultLemmas.{least-append}
@@ -21,7 +23,7 @@ use Rattle.cudf_document.proofs.proposed.stanza.read_stanza.Goals as goal
 -- the first fault, by the postmark
 abbrev of_mark : PlainStanza → Mode → List (List ℕ) → Option Postmark → Option Fault
 of_mark s mode names m = least (fault_if (is_none m) s.line E4 ++ values_faults m s.properties
-    ++ fault_if (marks_package m && is_none (version_property s)) s.last E12 ++ misplaced_faults mode (solution_misplaces m) s.properties
+    ++ fault_if (marks Package m && is_none (version_property s)) s.last E12 ++ misplaced_faults mode (solution_misplaces m) s.properties
     ++ undeclared_in_solution mode names m s.properties)
 
 by_mark : (s : PlainStanza) (mode : Mode) (names : List (List ℕ)) (m : Option Postmark) → postmark s ≡ m → of_mark s mode names m ≡ least (solution_stanza_faults mode names s)

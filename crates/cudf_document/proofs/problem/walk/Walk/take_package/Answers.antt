@@ -5,11 +5,11 @@ use Rattle.cudf_text.specs.declared.fault.Kind.TheVariants.{E11, E12, E14}
 use Rattle.cudf_text.specs.Promises.Views.{stanza_view}
 use Rattle.cudf_problem.specs.declared.postmark.Postmark.TheVariants.{Package}
 use Rattle.cudf_document.specs.Faults.{lesser, least, fault_if}
-use Rattle.cudf_problem.specs.Documents.{with_earlier, line_of}
+use Rattle.cudf_problem.specs.Documents.{with_earlier}
 use Rattle.cudf_problem.specs.Ids.{is_known}
-use Rattle.cudf_document.specs.Working.Judging.{id_under}
+use Rattle.cudf_document.specs.Working.Judging.{id_under, line_of, lacks_one, version_property}
 use Rattle.cudf_problem.specs.Promises.Packages.{with_id}
-use Rattle.cudf_document.specs.ProblemFaults.{property_faults, version_property, lacks_one}
+use Rattle.cudf_document.specs.ProblemFaults.{property_faults}
 use Rattle.cudf_document.specs.Working.Walks.{texts}
 use Rattle.cudf_document.proofs.FaultLemmas.{least-append}
 use Rattle.cudf_document.proofs.IdentityLemmas.{known_id-is, version_faults}
