@@ -10,7 +10,7 @@ use Rattle.cudf_problem.specs.Universe.{PlainProblem}
 use Rattle.cudf_job.specs.declared.aims.Aim.{Aim}
 use Rattle.cudf_job.specs.declared.aims.Sign.{Sign}
 use Rattle.cudf_job.specs.declared.aims.Sign.TheVariants.{Least, Most}
-use Rattle.cudf_job.specs.Aims.{count_of}
+use Rattle.cudf_job.specs.Aims.{count_row}
 use Rattle.cudf_job.specs.declared.criteria.Criteria.{Criteria}
 use Rattle.cudf_lrat.specs.Literals.{PlainCnf}
 use Rattle.cudf_cnf.specs.Cnf.{Keyed, clauses_of, cnf, is_too_large as is_cnf_too_large}
@@ -106,18 +106,18 @@ made_most problem aim count made bound is sign same size kind =
     other false = refl
 
 -- one more
-pub constraint_more : (problem : PlainProblem) (counts : Criteria) (aims : List Aim) (aim : Aim) (made : List Constraint) (next : Constraint) → AreConstraints problem counts aims made → IsConstraint problem aim (count_of counts aim.count) next
+pub constraint_more : (problem : PlainProblem) (counts : Criteria) (aims : List Aim) (aim : Aim) (made : List Constraint) (next : Constraint) → AreConstraints problem counts aims made → IsConstraint problem aim ((count_row aim.count).1 counts) next
     → AreConstraints problem counts (aims ++ aim ∷ []) (made ++ next ∷ [])
 constraint_more problem counts aims aim made next so_far one =
     record {
       are = map-append (λ (b : Constraint). at_most b.bound b.formulas) made (next ∷ []) ∙ (λ i. so_far.are i ++ one.is i ∷ [])
-          ∙ sym (map-append (λ (a : Aim). constraint_by problem a.sign a.count (count_of counts a.count)) aims (aim ∷ []));
+          ∙ sym (map-append (λ (a : Aim). constraint_by problem a.sign a.count ((count_row a.count).1 counts)) aims (aim ∷ []));
       few = list_any-append (has_too_many problem) aims (aim ∷ []) ∙ (λ i. so_far.few i || (one.few i || false));
     }
 
 -- the next aim's, by an index
 pub constraint_next : (problem : PlainProblem) (counts : Criteria) (aims : List Aim) (i : ℕ) (aim : Aim) (made now : List Constraint) (next : Constraint) (count : ℕ) → i < length aims → AreConstraints problem counts (take i aims) made → IsConstraint problem aim count next
-    → count ≡ count_of counts aim.count → aim ≡ get_or aims i aim → now ≡ made ++ next ∷ [] → AreConstraints problem counts (take (i + 1) aims) now
+    → count ≡ (count_row aim.count).1 counts → aim ≡ get_or aims i aim → now ≡ made ++ next ∷ [] → AreConstraints problem counts (take (i + 1) aims) now
 constraint_next problem counts aims i aim made now next count lt so_far one counted here pushed =
     subst (λ (now : List Constraint). AreConstraints problem counts (take (i + 1) aims) now) (sym pushed)
     (subst (λ (first : List Aim). AreConstraints problem counts first (made ++ next ∷ [])) (sym (take_more aims i aim lt ∙ ap (λ (a : Aim). take i aims ++ a ∷ []) (sym here)))

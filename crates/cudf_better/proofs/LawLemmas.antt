@@ -14,7 +14,7 @@ use Rattle.cudf_problem.specs.Promises.Packages.{are_distinct}
 use Rattle.cudf_problem.specs.Statuses.{PlainUnknown, is_initial}
 use Rattle.cudf_problem.specs.Universe.{PlainPackage, PlainProblem, package_id}
 use Rattle.cudf_index.specs.Satisfaction.{Placed, meets_clause_alone, members}
-use Rattle.cudf_job.specs.Aims.{count_of}
+use Rattle.cudf_job.specs.Aims.{count_row}
 use Rattle.cudf_job.specs.Comparing.{aim_cmp, compare, differ_in, sign_cmp}
 use Rattle.cudf_job.specs.declared.aims.Aim.{Aim}
 use Rattle.cudf_job.specs.declared.aims.Sign.{Sign}
@@ -51,14 +51,14 @@ raw s NotUpToDate = count_by (is_not_up_to_date s) (names s.problem)
 raw s UnsatRecommends = length (unsatisfied_recommends s)
 raw s Touched = count_by (is_touched s) (universe s)
 
-count_of_raw : (s : Proposal) (c : Count) → count_of (criteria s) c ≡ at_most_max (raw s c)
+count_raw : (s : Proposal) (c : Count) → (count_row c).1 (criteria s) ≡ at_most_max (raw s c)
 unfolding criteria
-count_of_raw s Removed = refl
-count_of_raw s New = refl
-count_of_raw s Changed = refl
-count_of_raw s NotUpToDate = refl
-count_of_raw s UnsatRecommends = refl
-count_of_raw s Touched = refl
+count_raw s Removed = refl
+count_raw s New = refl
+count_raw s Changed = refl
+count_raw s NotUpToDate = refl
+count_raw s UnsatRecommends = refl
+count_raw s Touched = refl
 
 abbrev counted : Assignment → Count → Item → Bool
 counted t c i = cond (counts_true c) (item_holds t i) (not (item_holds t i))
@@ -95,11 +95,11 @@ module _ (problem : PlainProblem) (is : Assignment) (distinct : are_distinct (ma
       by true = count_map (holds is) false_dnf (items problem c) ∙ count_same (λ i. holds is (false_dnf i)) (λ i. not (item_holds is i)) (false_is is) (items problem c)
       by false = count_map (holds is) true_dnf (items problem c) ∙ count_same (λ i. holds is (true_dnf i)) (λ i. not (not (item_holds is i))) (λ i. true_is is i ∙ sym (not_not (item_holds is i))) (items problem c)
 
-  count_is : (c : Count) → length (items problem c) ≤ 18446744073709551615 → count_of (criteria s) c ≡ count_by (counted is c) (items problem c)
+  count_is : (c : Count) → length (items problem c) ≤ 18446744073709551615 → (count_row c).1 (criteria s) ≡ count_by (counted is c) (items problem c)
   count_is c few =
       let all = count_by-le-length (counted is c) (items problem c) in
       let same = raw_is c in
-      let cut = count_of_raw s c in
+      let cut = count_raw s c in
       omega arith
 
 criteria_same : (problem : PlainProblem) (is : Assignment) (unknown : List PlainUnknown) → criteria (proposed problem is []) ≡ criteria (proposed problem is unknown)
@@ -132,7 +132,7 @@ module _ (problem : PlainProblem) (is : Assignment) (distinct : are_distinct (ma
   abbrev new : Proposal
   new = proposed problem is []
 
-  one_bound : (sign : Sign) (c : Count) (n : ℕ) (rest : Bool) → length (items problem c) ≤ 18446744073709551615 → Decides sign (count_of (criteria new) c) n rest
+  one_bound : (sign : Sign) (c : Count) (n : ℕ) (rest : Bool) → length (items problem c) ≤ 18446744073709551615 → Decides sign ((count_row c).1 (criteria new)) n rest
       → (nat_lt (count is (constraint_by problem sign c n)) (constraint_by problem sign c n).bound || (nat_le (count is (constraint_by problem sign c n)) (constraint_by problem sign c n).bound && rest)) ≡ true
   one_bound Least c n rest few h =
       let same = count_is problem is distinct c few in
@@ -145,32 +145,32 @@ module _ (problem : PlainProblem) (is : Assignment) (distinct : are_distinct (ma
       kept (count is (constraint_by problem Most c n)) (length (items problem c) - n) rest (⊎_elim (λ lt. inl (omega arith)) (λ eq. let e = eq.0 in inr (omega arith, eq.1)) h)
 
   less_from : (aims : List Aim) (d : Criteria) → list_any (has_too_many problem) aims ≡ false → compare aims (criteria new) d ≡ Less
-      → are_less is (map (λ aim. constraint_by problem aim.sign aim.count (count_of d aim.count)) aims) ≡ true
+      → are_less is (map (λ aim. constraint_by problem aim.sign aim.count ((count_row aim.count).1 d)) aims) ≡ true
   less_from [] d few h = absurd (cc h)
   less_from (aim ∷ aims) d few h =
       let both = or_parts (has_too_many problem aim) (list_any (has_too_many problem) aims) few in
-      let m = count_of (criteria new) aim.count in
-      let n = count_of d aim.count in
-      let rest = are_less is (map (λ aim. constraint_by problem aim.sign aim.count (count_of d aim.count)) aims) in
+      let m = (count_row aim.count).1 (criteria new) in
+      let n = (count_row aim.count).1 d in
+      let rest = are_less is (map (λ aim. constraint_by problem aim.sign aim.count ((count_row aim.count).1 d)) aims) in
       one_bound aim.sign aim.count n rest (ltb-false 18446744073709551615 (length (items problem aim.count)) both.0)
       (by (m == n) refl h (λ less. less_from aims d both.1 less))
     where
-      by : (b : Bool) → (count_of (criteria new) aim.count == count_of d aim.count) ≡ b
+      by : (b : Bool) → ((count_row aim.count).1 (criteria new) == (count_row aim.count).1 d) ≡ b
           → option_map_or (aim_cmp (criteria new) d) (cond (not b) (Some aim) (find (differ_in (criteria new) d) aims)) Equal ≡ Less
-          → (compare aims (criteria new) d ≡ Less → are_less is (map (λ aim. constraint_by problem aim.sign aim.count (count_of d aim.count)) aims) ≡ true)
-          → Decides aim.sign (count_of (criteria new) aim.count) (count_of d aim.count) (are_less is (map (λ aim. constraint_by problem aim.sign aim.count (count_of d aim.count)) aims))
-      by true e h more = equal aim.sign (eqb-true (count_of (criteria new) aim.count) (count_of d aim.count) e) (more h)
+          → (compare aims (criteria new) d ≡ Less → are_less is (map (λ aim. constraint_by problem aim.sign aim.count ((count_row aim.count).1 d)) aims) ≡ true)
+          → Decides aim.sign ((count_row aim.count).1 (criteria new)) ((count_row aim.count).1 d) (are_less is (map (λ aim. constraint_by problem aim.sign aim.count ((count_row aim.count).1 d)) aims))
+      by true e h more = equal aim.sign (eqb-true ((count_row aim.count).1 (criteria new)) ((count_row aim.count).1 d) e) (more h)
         where
-          equal : (sign : Sign) → count_of (criteria new) aim.count ≡ count_of d aim.count → are_less is (map (λ aim. constraint_by problem aim.sign aim.count (count_of d aim.count)) aims) ≡ true
-              → Decides sign (count_of (criteria new) aim.count) (count_of d aim.count) (are_less is (map (λ aim. constraint_by problem aim.sign aim.count (count_of d aim.count)) aims))
+          equal : (sign : Sign) → (count_row aim.count).1 (criteria new) ≡ (count_row aim.count).1 d → are_less is (map (λ aim. constraint_by problem aim.sign aim.count ((count_row aim.count).1 d)) aims) ≡ true
+              → Decides sign ((count_row aim.count).1 (criteria new)) ((count_row aim.count).1 d) (are_less is (map (λ aim. constraint_by problem aim.sign aim.count ((count_row aim.count).1 d)) aims))
           equal Least same rest = inr (same, rest)
           equal Most same rest = inr (same, rest)
       by false e h more = first aim.sign h
         where
-          first : (sign : Sign) → sign_cmp sign (count_of (criteria new) aim.count) (count_of d aim.count) ≡ Less
-              → Decides sign (count_of (criteria new) aim.count) (count_of d aim.count) (are_less is (map (λ aim. constraint_by problem aim.sign aim.count (count_of d aim.count)) aims))
-          first Least h = inl (less (count_of (criteria new) aim.count) (count_of d aim.count) h)
-          first Most h = inl (less (count_of d aim.count) (count_of (criteria new) aim.count) h)
+          first : (sign : Sign) → sign_cmp sign ((count_row aim.count).1 (criteria new)) ((count_row aim.count).1 d) ≡ Less
+              → Decides sign ((count_row aim.count).1 (criteria new)) ((count_row aim.count).1 d) (are_less is (map (λ aim. constraint_by problem aim.sign aim.count ((count_row aim.count).1 d)) aims))
+          first Least h = inl (less ((count_row aim.count).1 (criteria new)) ((count_row aim.count).1 d) h)
+          first Most h = inl (less ((count_row aim.count).1 d) ((count_row aim.count).1 (criteria new)) h)
 
 -- ---- places
 
@@ -275,7 +275,7 @@ better_satisfies problem counts aims distinct small is unknown solution better =
     (or_parts (nat_lt 2147483647 (variables problem counts aims)) (nat_lt 4294967295 (length (better_clauses problem counts aims)) || list_any (has_too_many problem) aims) small).1).1 in
     let fewer = less_from problem is distinct aims counts few (same_criteria ∙ better) in
     let P : AtMost → Type 0 = λ b. All (All (All (λ (l : Literal). l.variable < next))) b.formulas in
-    let f = less_satisfies next is (constraints problem counts aims) (All-map P (λ (aim : Aim). constraint_by problem aim.sign aim.count (count_of counts aim.count)) aims (λ k d lt. low_bound next problem low (get_or aims k d).sign (get_or aims k d).count (count_of counts (get_or aims k d).count))) fewer in
+    let f = less_satisfies next is (constraints problem counts aims) (All-map P (λ (aim : Aim). constraint_by problem aim.sign aim.count ((count_row aim.count).1 counts)) aims (λ k d lt. low_bound next problem low (get_or aims k d).sign (get_or aims k d).count ((count_row (get_or aims k d).count).1 counts))) fewer in
     let same = members_same f.extended is 1 problem.packages (λ place lt. f.same place (omega arith)) in
     let solves : is_solution (proposed problem f.extended unknown) ≡ true =
     (λ i. is_solution (record { problem = problem; initial = members (is_initial problem) problem.packages; proposed = same i; unknown = unknown })) ∙ solution in

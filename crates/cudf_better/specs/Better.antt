@@ -6,7 +6,7 @@ use Rattle.cudf_problem.specs.Statuses.{is_initial}
 use Rattle.cudf_problem.specs.Universe.{PlainProblem}
 use Rattle.cudf_index.specs.Promises.Places.{is_named}
 use Rattle.cudf_index.specs.Satisfaction.{Placed, meets_clause_alone, members}
-use Rattle.cudf_job.specs.Aims.{count_of}
+use Rattle.cudf_job.specs.Aims.{count_row}
 use Rattle.cudf_job.specs.declared.aims.Aim.{Aim}
 use Rattle.cudf_job.specs.declared.aims.Sign.{Sign}
 use Rattle.cudf_job.specs.declared.aims.Sign.TheVariants.{Least, Most}
@@ -97,7 +97,7 @@ constraint_by problem Most count n = record { formulas = map (if counts_true cou
 
 -- for each aim, that the count is no worse than this
 abbrev pub constraints : PlainProblem → Criteria → List Aim → List AtMost
-constraints problem counts aims = map (λ aim. constraint_by problem aim.sign aim.count (count_of counts aim.count)) aims
+constraints problem counts aims = map (λ aim. constraint_by problem aim.sign aim.count ((count_row aim.count).1 counts)) aims
 
 -- the clauses of the problem, and behind them that a status compares better than these counts by the aims
 unfoldable pub better_clauses : PlainProblem → Criteria → List Aim → List (List Literal)

@@ -6,7 +6,8 @@ use Rattle.std.proofs.lemmas.Bool.{true≢false}
 use Rattle.std.proofs.lemmas.Cmp.{nat_list_cmp_total}
 use Rattle.std.proofs.lemmas.List.{take_more, take_all, drop_all, length-drop}
 use Rattle.cudf_referee.specs.Instances.{PlainInstance}
-use Rattle.cudf_job.specs.Keys.{PlainKey, key_ranks, key_cmp, precedes_all, ascend, key_text}
+use Rattle.cudf_job.specs.Keys.{PlainKey, key_ranks, key_cmp, ascend, key_text}
+use Rattle.cudf_job.specs.Working.Keys.{precedes_all}
 use Rattle.cudf_job.specs.declared.key.Key.{Key}
 use Rattle.cudf_problem.specs.Documents.{is_empty}
 use Rattle.cudf_job.specs.KeyViews.{key_view}

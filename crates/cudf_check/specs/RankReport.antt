@@ -6,7 +6,7 @@ use Rattle.cudf_text.specs.declared.fault.Fault.{Fault}
 use Rattle.cudf_text.specs.Joined.{is_fail}
 use Rattle.cudf_text.specs.Stanzas.{plain_text}
 use Rattle.cudf_problem.specs.Universe.{PlainProblem}
-use Rattle.cudf_job.specs.Aims.{aim_text, count_of}
+use Rattle.cudf_job.specs.Aims.{aim_text, count_row}
 use Rattle.cudf_referee.specs.Criteria.{criteria}
 use Rattle.cudf_referee.specs.Proposals.{Proposal}
 use Rattle.cudf_referee.specs.Solutions.{is_solution}
@@ -57,7 +57,7 @@ entrants problem solutions = map (entrant_of problem) (enumerate_from 1 solution
 
 -- ` -changed 2`
 abbrev pub aim_count : Criteria → Aim → List ℕ
-aim_count c aim = codes " " ++ aim_text aim ++ codes " " ++ decimal (count_of c aim.count)
+aim_count c aim = codes " " ++ aim_text aim ++ codes " " ++ decimal ((count_row aim.count).1 c)
 
 -- `yes -changed 1 -touched 1`, `no` or `FAIL`
 abbrev pub judgement_text : List Aim → Judgement → List ℕ

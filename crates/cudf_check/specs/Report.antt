@@ -18,7 +18,7 @@ use Rattle.cudf_problem.specs.Universe.{PlainPackage, PlainProblem, plain_proble
 use Rattle.cudf_index.specs.Satisfaction.{Placed}
 use Rattle.cudf_problem.specs.Statuses.{is_initial, is_proposed, unknown_stanzas}
 use Rattle.cudf_problem.specs.Ids.{Id}
-use Rattle.cudf_job.specs.Aims.{aim_text, count_of, count_text}
+use Rattle.cudf_job.specs.Aims.{aim_text, count_row}
 use Rattle.cudf_job.specs.declared.aims.Aim.{Aim}
 use Rattle.cudf_job.specs.declared.key.Aspect.{Aspect}
 use Rattle.cudf_job.specs.declared.key.Aspect.TheVariants.{Unsatisfied, Many, Lower}
@@ -152,13 +152,13 @@ scored_counts = Removed ∷ New ∷ Changed ∷ NotUpToDate ∷ UnsatRecommends 
 -- a line for each count, and one for each vector
 abbrev pub criteria_text : Criteria → List ℕ
 criteria_text c =
-    flat_map (λ count. count_line (count_text count) (count_of c count)) scored_counts
+    flat_map (λ count. count_line (count_row count).0 ((count_row count).1 c)) scored_counts
     ++ vector_line (codes "paranoid") (paranoid c)
     ++ vector_line (codes "trendy") (trendy c)
 
 -- `-removed 2`
 abbrev pub aim_line : Criteria → Aim → List ℕ
-aim_line c aim = count_line (aim_text aim) (count_of c aim.count)
+aim_line c aim = count_line (aim_text aim) ((count_row aim.count).1 c)
 
 -- a line for each of the aims in their order, where there are aims; and else the counts and vectors of the competition
 abbrev pub scored_text : Option (List Aim) → Proposal → List ℕ

@@ -19,7 +19,7 @@ use Rattle.cudf_index.specs.Promises.Places.{is_named}
 use Rattle.cudf_index.specs.Satisfaction.{Placed, numbers_of}
 use Rattle.cudf_job.specs.declared.key.Aspect.{Aspect}
 use Rattle.cudf_job.specs.declared.key.Aspect.TheVariants.{Unsatisfied, Many, Lower}
-use Rattle.cudf_job.specs.Keys.{unknown_key}
+use Rattle.cudf_job.specs.Working.Keys.{unknown_key}
 use Rattle.cudf_lrat.specs.declared.cnf.Literal.{Literal}
 use Rattle.cudf_lrat.specs.Literals.{IsCore, clause_at, is_satisfied_by}
 use Rattle.cudf_referee.specs.Instances.{PlainInstance, keep_feature}

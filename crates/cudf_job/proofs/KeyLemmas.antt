@@ -16,7 +16,7 @@ use Rattle.cudf_job.specs.declared.key.Aspect.TheVariants.{Unsatisfied, Many, Lo
 use Rattle.cudf_job.specs.contracts.key.PartOrd.TheImpl as part_order
 use Rattle.cudf_job.specs.contracts.key.RuleOrd.TheImpl as rule_order
 use Rattle.cudf_job.specs.contracts.key.AspectOrd.TheImpl as aspect_order
-use Rattle.cudf_job.specs.Keys.{PlainKey, part_rank, part_place, rule_rank, aspect_rank, key_ranks, key_cmp}
+use Rattle.cudf_job.specs.Keys.{PlainKey, part_row, part_place, rule_row, aspect_row, key_ranks, key_cmp}
 
 -- ---- a proof for each variant is one for all
 
@@ -37,7 +37,7 @@ every_aspect P none unsatisfied many lower (Some Lower) = lower
 
 -- ---- order
 
-pub parts_ranked : (a b : Part) (o : Ordering) → ordering_then (part_order.cmp-value.it a b) o ≡ ordering_then (nat_cmp (part_rank a) (part_rank b)) (ordering_then (nat_cmp (part_place a) (part_place b)) o)
+pub parts_ranked : (a b : Part) (o : Ordering) → ordering_then (part_order.cmp-value.it a b) o ≡ ordering_then (nat_cmp (part_row a).0 (part_row b).0) (ordering_then (nat_cmp (part_place a) (part_place b)) o)
 parts_ranked (Package m) (Package n) o = refl
 parts_ranked (Package m) Request o = refl
 parts_ranked (Package m) Solution o = refl
@@ -48,8 +48,8 @@ parts_ranked Solution (Package n) o = refl
 parts_ranked Solution Request o = refl
 parts_ranked Solution Solution o = refl
 
-pub rules_ranked : (a b : Rule) → rule_order.cmp-value.it a b ≡ nat_cmp (rule_rank a) (rule_rank b)
-rules_ranked = every_rule (λ a. (b : Rule) → rule_order.cmp-value.it a b ≡ nat_cmp (rule_rank a) (rule_rank b))
+pub rules_ranked : (a b : Rule) → rule_order.cmp-value.it a b ≡ nat_cmp (rule_row a).0 (rule_row b).0
+rules_ranked = every_rule (λ a. (b : Rule) → rule_order.cmp-value.it a b ≡ nat_cmp (rule_row a).0 (rule_row b).0)
     (every_rule _ refl refl refl refl refl refl refl)
     (every_rule _ refl refl refl refl refl refl refl)
     (every_rule _ refl refl refl refl refl refl refl)
@@ -58,8 +58,8 @@ rules_ranked = every_rule (λ a. (b : Rule) → rule_order.cmp-value.it a b ≡ 
     (every_rule _ refl refl refl refl refl refl refl)
     (every_rule _ refl refl refl refl refl refl refl)
 
-pub aspects_ranked : (a b : Option Aspect) → option_cmp aspect_order.cmp-value.it a b ≡ ordering_then (nat_cmp (aspect_rank a) (aspect_rank b)) Equal
-aspects_ranked = every_aspect (λ a. (b : Option Aspect) → option_cmp aspect_order.cmp-value.it a b ≡ ordering_then (nat_cmp (aspect_rank a) (aspect_rank b)) Equal)
+pub aspects_ranked : (a b : Option Aspect) → option_cmp aspect_order.cmp-value.it a b ≡ ordering_then (nat_cmp (aspect_row a).0 (aspect_row b).0) Equal
+aspects_ranked = every_aspect (λ a. (b : Option Aspect) → option_cmp aspect_order.cmp-value.it a b ≡ ordering_then (nat_cmp (aspect_row a).0 (aspect_row b).0) Equal)
     (every_aspect _ refl refl refl refl)
     (every_aspect _ refl refl refl refl)
     (every_aspect _ refl refl refl refl)
@@ -68,7 +68,7 @@ aspects_ranked = every_aspect (λ a. (b : Option Aspect) → option_cmp aspect_o
 -- the comparison that is derived, from the left
 pub key_ranked : (p q : Part) (r s : Rule) (m n : ℕ) (x y : Option Aspect)
     → ordering_then (part_order.cmp-value.it p q) (ordering_then (rule_order.cmp-value.it r s) (ordering_then (nat_cmp m n) (option_cmp aspect_order.cmp-value.it x y)))
-    ≡ slice_cmp nat_cmp (part_rank p ∷ part_place p ∷ rule_rank r ∷ m ∷ aspect_rank x ∷ []) (part_rank q ∷ part_place q ∷ rule_rank s ∷ n ∷ aspect_rank y ∷ [])
+    ≡ slice_cmp nat_cmp ((part_row p).0 ∷ part_place p ∷ (rule_row r).0 ∷ m ∷ (aspect_row x).0 ∷ []) ((part_row q).0 ∷ part_place q ∷ (rule_row s).0 ∷ n ∷ (aspect_row y).0 ∷ [])
 key_ranked p q r s m n x y = rw (rules_ranked r s, aspects_ranked x y) (parts_ranked p q _)
 
 -- ---- equality
@@ -93,16 +93,16 @@ key_back ranks = record {
   aspect = aspect_back (slice_index_or ranks 4 0);
 }
 
-part_is : (p : Part) → part_back (part_rank p) (part_place p) ≡ p
+part_is : (p : Part) → part_back (part_row p).0 (part_place p) ≡ p
 part_is (Package n) = refl
 part_is Request = refl
 part_is Solution = refl
 
-rule_is : (r : Rule) → rule_back (rule_rank r) ≡ r
-rule_is = every_rule (λ r. rule_back (rule_rank r) ≡ r) refl refl refl refl refl refl refl
+rule_is : (r : Rule) → rule_back (rule_row r).0 ≡ r
+rule_is = every_rule (λ r. rule_back (rule_row r).0 ≡ r) refl refl refl refl refl refl refl
 
-aspect_is : (a : Option Aspect) → aspect_back (aspect_rank a) ≡ a
-aspect_is = every_aspect (λ a. aspect_back (aspect_rank a) ≡ a) refl refl refl refl
+aspect_is : (a : Option Aspect) → aspect_back (aspect_row a).0 ≡ a
+aspect_is = every_aspect (λ a. aspect_back (aspect_row a).0 ≡ a) refl refl refl refl
 
 key_is : (k : PlainKey) → key_back (key_ranks k) ≡ k
 key_is k = rw (part_is k.part, rule_is k.rule, aspect_is k.aspect) refl

@@ -11,10 +11,11 @@ use Rattle.cudf_job.specs.declared.key.Part.TheVariants.{Package, Request, Solut
 use Rattle.cudf_job.specs.declared.key.Rule.{Rule}
 use Rattle.cudf_job.specs.declared.key.Rule.TheVariants.{Depends, Conflicts, Keep, Install, Remove, Upgrade, Unknown}
 use Rattle.cudf_job.specs.declared.key.Aspect.{Aspect}
+use Rattle.cudf_job.specs.declared.key.Aspect.TheVariants.{Unsatisfied, Many, Lower}
 use Rattle.cudf_job.specs.declared.key.Key.{Key}
 use Rattle.cudf_job.specs.KeyViews.{key_view}
-use Rattle.cudf_job.specs.Keys.{PlainKey, part_place, part_text, rule_text, aspect_word, aspect_text, key_text}
-use Rattle.cudf_job.specs.Promises.Keys.{IsWritable, is_fitting}
+use Rattle.cudf_job.specs.Keys.{PlainKey, part_place, part_row, rule_row, aspect_row, key_text}
+use Rattle.cudf_job.specs.Promises.Keys.{IsWritable, is_fitting, aspect_word}
 use Rattle.cudf_job.specs.Working.KeyTexts.{has_no_point}
 
 and_left : (a b : Bool) → (a && b) ≡ true → a ≡ true
@@ -82,29 +83,35 @@ decimal_tells m n small_m small_n same = sym (decimal_is_IsNumeral m small_m).1 
 
 -- ---- places with aspects
 
+-- the text of an aspect is a point and its word
+pub dotted : (w : Aspect) → (aspect_row (Some w)).1 ≡ 46 ∷ aspect_word w
+dotted Unsatisfied = refl
+dotted Many = refl
+dotted Lower = refl
+
 -- a text with a point has an aspect
-pub with_aspect : (text place word : List ℕ) (n : ℕ) (a : Option Aspect) → n < 2 ^ 64 → decimal n ++ aspect_text a ≡ text
+pub with_aspect : (text place word : List ℕ) (n : ℕ) (a : Option Aspect) → n < 2 ^ 64 → decimal n ++ (aspect_row a).1 ≡ text
     → ((first rest : List ℕ) → has_no_point first ≡ true → first ++ 46 ∷ rest ≡ text → (place ≡ first) × (word ≡ rest)) → (has_no_point text ≡ true → ⊥)
     → (w : Aspect) × (a ≡ Some w) × (place ≡ decimal n) × (word ≡ aspect_word w)
 with_aspect text place word n None small same first none = absurd (none (ap has_no_point (sym same) ∙ ap has_no_point (append-nil (decimal n)) ∙ decimal_plain n small))
 with_aspect text place word n (Some w) small same first none =
-    let cut = first (decimal n) (aspect_word w) (decimal_plain n small) same in
+    let cut = first (decimal n) (aspect_word w) (decimal_plain n small) (ap (λ t. decimal n ++ t) (sym (dotted w)) ∙ same) in
     (w, refl, cut.0, cut.1)
 
 -- and one without has none
-pub without_aspect : (text : List ℕ) (n : ℕ) (a : Option Aspect) → n < 2 ^ 64 → decimal n ++ aspect_text a ≡ text
+pub without_aspect : (text : List ℕ) (n : ℕ) (a : Option Aspect) → n < 2 ^ 64 → decimal n ++ (aspect_row a).1 ≡ text
     → ((first rest : List ℕ) → has_no_point first ≡ true → first ++ 46 ∷ rest ≡ text → ⊥) → (a ≡ None) × (decimal n ≡ text)
 without_aspect text n None small same first = (refl, sym (append-nil (decimal n)) ∙ same)
-without_aspect text n (Some w) small same first = absurd (first (decimal n) (aspect_word w) (decimal_plain n small) same)
+without_aspect text n (Some w) small same first = absurd (first (decimal n) (aspect_word w) (decimal_plain n small) (ap (λ t. decimal n ++ t) (sym (dotted w)) ∙ same))
 
 -- ---- keys
 
-pub part_plain : (p : Part) → part_place p < 2 ^ 64 → has_no_point (part_text p) ≡ true
+pub part_plain : (p : Part) → part_place p < 2 ^ 64 → has_no_point (part_row p).1 ≡ true
 part_plain (Package n) small = decimal_plain n small
 part_plain Request small = refl
 part_plain Solution small = refl
 
-pub rule_plain : (r : Rule) → has_no_point (rule_text r) ≡ true
+pub rule_plain : (r : Rule) → has_no_point (rule_row r).1 ≡ true
 rule_plain Depends = refl
 rule_plain Conflicts = refl
 rule_plain Keep = refl
@@ -115,37 +122,37 @@ rule_plain Unknown = refl
 
 -- what follows the part, and after the rule
 abbrev pub behind_rule : PlainKey → List ℕ
-behind_rule k = decimal k.place ++ aspect_text k.aspect
+behind_rule k = decimal k.place ++ (aspect_row k.aspect).1
 
 abbrev pub behind_part : PlainKey → List ℕ
-behind_part k = rule_text k.rule ++ 46 ∷ behind_rule k
+behind_part k = (rule_row k.rule).1 ++ 46 ∷ behind_rule k
 
 grouped : (a b c d : List ℕ) → a ++ 46 ∷ (b ++ 46 ∷ (c ++ d)) ≡ a ++ (46 ∷ []) ++ b ++ (46 ∷ []) ++ c ++ d
 grouped a b c d = simp append_assoc
 
-pub text_cut : (k : PlainKey) → part_text k.part ++ 46 ∷ behind_part k ≡ key_text k
-text_cut k = grouped (part_text k.part) (rule_text k.rule) (decimal k.place) (aspect_text k.aspect)
+pub text_cut : (k : PlainKey) → (part_row k.part).1 ++ 46 ∷ behind_part k ≡ key_text k
+text_cut k = grouped (part_row k.part).1 (rule_row k.rule).1 (decimal k.place) (aspect_row k.aspect).1
 
 -- the first piece of a key's text is its part
 pub part_first : {P : Type 0} (k : PlainKey) (text : List ℕ) → IsWritable k → key_text k ≡ text
     → ((first rest : List ℕ) → has_no_point first ≡ true → first ++ 46 ∷ rest ≡ text → P) → P
-part_first k text writable same cut = cut (part_text k.part) (behind_part k) (part_plain k.part writable.number) (text_cut k ∙ same)
+part_first k text writable same cut = cut (part_row k.part).1 (behind_part k) (part_plain k.part writable.number) (text_cut k ∙ same)
 
 pub part_and_rest : (k : PlainKey) (text part rest : List ℕ) → IsWritable k → key_text k ≡ text
-    → ((first behind : List ℕ) → has_no_point first ≡ true → first ++ 46 ∷ behind ≡ text → (part ≡ first) × (rest ≡ behind)) → (part ≡ part_text k.part) × (rest ≡ behind_part k)
-part_and_rest k text part rest writable same cut = cut (part_text k.part) (behind_part k) (part_plain k.part writable.number) (text_cut k ∙ same)
+    → ((first behind : List ℕ) → has_no_point first ≡ true → first ++ 46 ∷ behind ≡ text → (part ≡ first) × (rest ≡ behind)) → (part ≡ (part_row k.part).1) × (rest ≡ behind_part k)
+part_and_rest k text part rest writable same cut = cut (part_row k.part).1 (behind_part k) (part_plain k.part writable.number) (text_cut k ∙ same)
 
 pub rule_first : {P : Type 0} (k : PlainKey) (text : List ℕ) → text ≡ behind_part k
     → ((first rest : List ℕ) → has_no_point first ≡ true → first ++ 46 ∷ rest ≡ text → P) → P
-rule_first k text same cut = cut (rule_text k.rule) (behind_rule k) (rule_plain k.rule) (sym same)
+rule_first k text same cut = cut (rule_row k.rule).1 (behind_rule k) (rule_plain k.rule) (sym same)
 
 pub rule_and_rest : (k : PlainKey) (text rule rest : List ℕ) → text ≡ behind_part k
-    → ((first behind : List ℕ) → has_no_point first ≡ true → first ++ 46 ∷ behind ≡ text → (rule ≡ first) × (rest ≡ behind)) → (rule ≡ rule_text k.rule) × (rest ≡ behind_rule k)
-rule_and_rest k text rule rest same cut = cut (rule_text k.rule) (behind_rule k) (rule_plain k.rule) (sym same)
+    → ((first behind : List ℕ) → has_no_point first ≡ true → first ++ 46 ∷ behind ≡ text → (rule ≡ first) × (rest ≡ behind)) → (rule ≡ (rule_row k.rule).1) × (rest ≡ behind_rule k)
+rule_and_rest k text rule rest same cut = cut (rule_row k.rule).1 (behind_rule k) (rule_plain k.rule) (sym same)
 
 -- the key of a part, a rule, a place and an aspect is printed as their texts, with points between them
 pub text_of : (k : PlainKey) (text part rest rule rest' : List ℕ) → part ++ 46 ∷ rest ≡ text → rule ++ 46 ∷ rest' ≡ rest
-    → part_text k.part ≡ part → rule_text k.rule ≡ rule → behind_rule k ≡ rest' → key_text k ≡ text
+    → (part_row k.part).1 ≡ part → (rule_row k.rule).1 ≡ rule → behind_rule k ≡ rest' → key_text k ≡ text
 text_of k text part rest rule rest' whole inner part_is rule_is rest_is =
     sym (text_cut k) ∙ (λ i. part_is i ++ 46 ∷ (rule_is i ++ 46 ∷ rest_is i)) ∙ ap (λ xs. part ++ 46 ∷ xs) inner ∙ whole
 

@@ -1,12 +1,12 @@
 -- The ranking has all entrants, and each precedes all later ones.
-use Rattle.std.proofs.Common.{◌≡◌, ◌+◌, ◌<◌, ◌≤◌, ℕ, zero, suc, Bool, true, false, not, ◌&&◌, ◌==◌, cond, if◌then◌else◌, List, [], ◌∷◌, ◌++◌, ◌⊎◌, inl, inr, Some, find, map, length, get_or, IsTrue, IsPermutation, refl, sym, ap, ◌∙◌, subst, append-nil, eqb-true, arith}
+use Rattle.std.proofs.Common.{◌≡◌, ◌+◌, ◌<◌, ◌≤◌, ℕ, zero, suc, Bool, true, false, not, ◌&&◌, ◌==◌, cond, if◌then◌else◌, List, [], ◌∷◌, ◌++◌, ◌⊎◌, inl, inr, Some, find, length, get_or, IsTrue, IsPermutation, refl, sym, ap, ◌∙◌, subst, append-nil, eqb-true, arith}
 use Rattle.std.proofs.lemmas.Bool.{eq-eqb, cases_lt, and_from as both}
 use Rattle.std.proofs.lemmas.Bool.Decides.{nat_tests}
 use Rattle.std.proofs.lemmas.Cmp.{ranked, tied_itself, nat_cmp_total, on_total, then_total, back_total}
 use Rattle.std.proofs.lemmas.List.Elements.{All-from_recursion, recursion_from_All}
 use Rattle.std.proofs.lemmas.List.Sorted.{All-permutation, IsPermutation-refl, IsPermutation-sym, IsPermutation-trans, IsPermutation-append_left, IsPermutation-middle, IsPermutation-insert}
 use Rattle.std.specs.Cmp.{IsTotalOrder, IsStrictWeakOrder}
-use Rattle.std.specs.List.{AllByRecursion, IsDistinct, list_all, position_or_len, insert}
+use Rattle.std.specs.List.{AllByRecursion, IsDistinct, fold, list_all, position_or_len, insert}
 use Rattle.std.specs.List.Sorted.{IsSortedBy}
 use Rattle.std.specs.Option.{option_map_or}
 use Rattle.std.proofs.lemmas.List.MinMax.{ranks_by}
@@ -14,13 +14,13 @@ use Rattle.std.proofs.lemmas.Map.Keys.{apart_from_distinct, IsDistinct-IsPermuta
 use Rattle.std.specs.Ordering.{nat_cmp, ordering_then, ordering_reverse, is_lt, on, then_cmp}
 use Rattle.std.specs.declared.cmp.Ordering.{Ordering}
 use Rattle.std.specs.declared.cmp.Ordering.TheVariants.{Less, Equal, Greater}
-use Rattle.cudf_job.specs.Aims.{count_of}
+use Rattle.cudf_job.specs.Aims.{count_row}
 use Rattle.cudf_job.specs.Comparing.{sign_cmp, aim_cmp, differ_in, compare}
 use Rattle.cudf_job.specs.declared.aims.Aim.{Aim}
 use Rattle.cudf_job.specs.declared.aims.Sign.{Sign}
 use Rattle.cudf_job.specs.declared.aims.Sign.TheVariants.{Least, Most}
 use Rattle.cudf_job.specs.declared.criteria.Criteria.{Criteria}
-use Rattle.cudf_job.specs.Ranking.{class, compare_counts, precedes, put, put_all, ranking, have_own_places, ascend}
+use Rattle.cudf_job.specs.Ranking.{class, compare_counts, precedes, put, ranking, have_own_places, ascend}
 use Rattle.cudf_job.specs.declared.ranking.Judgement.{Judgement}
 use Rattle.cudf_job.specs.declared.ranking.Judgement.TheVariants.{Solution, NoSolution, SaysFail}
 use Rattle.cudf_job.specs.declared.ranking.Entrant.{Entrant}
@@ -40,7 +40,7 @@ is_less Equal h = absurd (cc h)
 is_less Greater h = absurd (cc h)
 
 -- to insert before the first that it precedes is to put in place
-inserted : (aims : List Aim) (x : Entrant) (ys : List Entrant) → insert ys (position_or_len (precedes aims x) ys) x ≡ put aims x ys
+inserted : (aims : List Aim) (x : Entrant) (ys : List Entrant) → insert ys (position_or_len (precedes aims x) ys) x ≡ put aims ys x
 inserted aims x [] = refl
 inserted aims x (y ∷ ys) = here (precedes aims x y) (inserted aims x ys)
   where
@@ -50,7 +50,7 @@ inserted aims x (y ∷ ys) = here (precedes aims x y) (inserted aims x ys)
     next : 1 + n ≡ suc n
     next = omega arith
 
-    here : (b : Bool) → insert ys n x ≡ put aims x ys → insert (y ∷ ys) (cond (not b) (1 + n) 0) x ≡ (if b then x ∷ y ∷ ys else y ∷ put aims x ys)
+    here : (b : Bool) → insert ys n x ≡ put aims ys x → insert (y ∷ ys) (cond (not b) (1 + n) 0) x ≡ (if b then x ∷ y ∷ ys else y ∷ put aims ys x)
     here true below = refl
     here false below = ap (λ m. insert (y ∷ ys) m x) next ∙ ap (λ zs. y ∷ zs) below
 
@@ -69,17 +69,17 @@ sign_equal Least m n is = ranked m n Equal (sym is)
 sign_equal Most m n is = sym (ranked n m Equal (sym is))
 
 aim_total : (aim : Aim) → IsTotalOrder (λ c d. aim_cmp c d aim)
-aim_total aim = on_total (λ (c : Criteria). count_of c aim.count) (sign_total aim.sign)
+aim_total aim = on_total (count_row aim.count).1 (sign_total aim.sign)
 
 -- the first aim decides, or else the others
 compare_first : (aim : Aim) (aims : List Aim) (c d : Criteria) → compare (aim ∷ aims) c d ≡ ordering_then (aim_cmp c d aim) (compare aims c d)
 compare_first aim aims c d = by (m == n) refl
   where
     m : ℕ
-    m = count_of c aim.count
+    m = (count_row aim.count).1 c
 
     n : ℕ
-    n = count_of d aim.count
+    n = (count_row aim.count).1 d
 
     decides : (o : Ordering) → (o ≡ Equal → ⊥) → o ≡ ordering_then o (compare aims c d)
     decides Less other = refl
@@ -168,13 +168,13 @@ all_both p q r implies (x ∷ xs) h k = both (r x) (list_all r xs) (implies x (a
     (all_both p q r implies xs (and_right (p x) (list_all p xs) h) (and_right (q x) (list_all q xs) k))
 
 -- what holds of one and of the others holds of all where the one is put in
-all_put : (p : Entrant → Bool) (aims : List Aim) (x : Entrant) (ys : List Entrant) → p x ≡ true → list_all p ys ≡ true → list_all p (put aims x ys) ≡ true
+all_put : (p : Entrant → Bool) (aims : List Aim) (x : Entrant) (ys : List Entrant) → p x ≡ true → list_all p ys ≡ true → list_all p (put aims ys x) ≡ true
 all_put p aims x [] h k = both (p x) true h refl
 all_put p aims x (y ∷ ys) h k = by (precedes aims x y) (all_put p aims x ys h (and_right (p y) (list_all p ys) k))
   where
-    by : (b : Bool) → list_all p (put aims x ys) ≡ true → list_all p (if b then x ∷ y ∷ ys else y ∷ put aims x ys) ≡ true
+    by : (b : Bool) → list_all p (put aims ys x) ≡ true → list_all p (if b then x ∷ y ∷ ys else y ∷ put aims ys x) ≡ true
     by true rest = both (p x) (p y && list_all p ys) h k
-    by false rest = both (p y) (list_all p (put aims x ys)) (and_left (p y) (list_all p ys) k) rest
+    by false rest = both (p y) (list_all p (put aims ys x)) (and_left (p y) (list_all p ys) k) rest
 
 -- ---- one more is put in
 
@@ -192,7 +192,7 @@ apart_back x y h = by (y.place == x.place) refl
     by true is = absurd (apart x y h (sym (eqb-true y.place x.place is)))
     by false is = refl
 
-put_ascends : (aims : List Aim) (x : Entrant) (ys : List Entrant) → list_all (is_apart x) ys ≡ true → ascend aims ys ≡ true → ascend aims (put aims x ys) ≡ true
+put_ascends : (aims : List Aim) (x : Entrant) (ys : List Entrant) → list_all (is_apart x) ys ≡ true → ascend aims ys ≡ true → ascend aims (put aims ys x) ≡ true
 put_ascends aims x [] far h = refl
 put_ascends aims x (y ∷ ys) far h = by (precedes aims x y) refl
     (put_ascends aims x ys (and_right (is_apart x y) (list_all (is_apart x) ys) far) (and_right (list_all (precedes aims y) ys) (ascend aims ys) h))
@@ -200,32 +200,32 @@ put_ascends aims x (y ∷ ys) far h = by (precedes aims x y) refl
     below : list_all (precedes aims y) ys ≡ true
     below = and_left (list_all (precedes aims y) ys) (ascend aims ys) h
 
-    by : (b : Bool) → precedes aims x y ≡ b → ascend aims (put aims x ys) ≡ true → ascend aims (if b then x ∷ y ∷ ys else y ∷ put aims x ys) ≡ true
+    by : (b : Bool) → precedes aims x y ≡ b → ascend aims (put aims ys x) ≡ true → ascend aims (if b then x ∷ y ∷ ys else y ∷ put aims ys x) ≡ true
     by true is rest = both (precedes aims x y && list_all (precedes aims x) ys) (list_all (precedes aims y) ys && ascend aims ys)
         (both (precedes aims x y) (list_all (precedes aims x) ys) is (all_weaker (precedes aims y) (precedes aims x) (λ z. precedes_on aims x y z is) ys below)) h
-    by false is rest = both (list_all (precedes aims y) (put aims x ys)) (ascend aims (put aims x ys))
+    by false is rest = both (list_all (precedes aims y) (put aims ys x)) (ascend aims (put aims ys x))
         (all_put (precedes aims y) aims x ys (one_precedes aims x y (apart x y (and_left (is_apart x y) (list_all (is_apart x) ys) far)) is) below) rest
 
-put_permutes : (aims : List Aim) (x : Entrant) (ys : List Entrant) → IsPermutation (x ∷ ys) (put aims x ys)
+put_permutes : (aims : List Aim) (x : Entrant) (ys : List Entrant) → IsPermutation (x ∷ ys) (put aims ys x)
 put_permutes aims x ys = subst (IsPermutation (x ∷ ys)) (inserted aims x ys) (IsPermutation-insert ys (position_or_len (precedes aims x) ys) x)
 
 -- ---- all are put in
 
 all_ascend : (aims : List Aim) (done xs : List Entrant) → list_all (λ x. list_all (is_apart x) done) xs ≡ true → have_own_places xs ≡ true
-    → ascend aims done ≡ true → ascend aims (put_all aims done xs) ≡ true
+    → ascend aims done ≡ true → ascend aims (fold (put aims) done xs) ≡ true
 all_ascend aims done [] far own h = h
-all_ascend aims done (x ∷ xs) far own h = all_ascend aims (put aims x done) xs
-    (all_both (is_apart x) (λ z. list_all (is_apart z) done) (λ z. list_all (is_apart z) (put aims x done))
+all_ascend aims done (x ∷ xs) far own h = all_ascend aims (put aims done x) xs
+    (all_both (is_apart x) (λ z. list_all (is_apart z) done) (λ z. list_all (is_apart z) (put aims done x))
     (λ z other others. all_put (is_apart z) aims x done (apart_back x z other) others) xs
     (and_left (list_all (is_apart x) xs) (have_own_places xs) own)
     (and_right (list_all (is_apart x) done) (list_all (λ z. list_all (is_apart z) done) xs) far))
     (and_right (list_all (is_apart x) xs) (have_own_places xs) own)
     (put_ascends aims x done (and_left (list_all (is_apart x) done) (list_all (λ z. list_all (is_apart z) done) xs) far) h)
 
-all_permute : (aims : List Aim) (done xs : List Entrant) → IsPermutation (done ++ xs) (put_all aims done xs)
+all_permute : (aims : List Aim) (done xs : List Entrant) → IsPermutation (done ++ xs) (fold (put aims) done xs)
 all_permute aims done [] = subst (λ ys. IsPermutation ys done) (sym (append-nil done)) (IsPermutation-refl done)
 all_permute aims done (x ∷ xs) = IsPermutation-trans _ _ _ (IsPermutation-middle done x xs)
-    (IsPermutation-trans _ _ _ (IsPermutation-append_left xs (x ∷ done) (put aims x done) (put_permutes aims x done)) (all_permute aims (put aims x done) xs))
+    (IsPermutation-trans _ _ _ (IsPermutation-append_left xs (x ∷ done) (put aims done x) (put_permutes aims x done)) (all_permute aims (put aims done x) xs))
 
 none_before : (xs : List Entrant) → list_all (λ x. list_all (is_apart x) []) xs ≡ true
 none_before [] = refl

@@ -7,15 +7,14 @@ use Rattle.cudf_job.specs.declared.aims.Sign.{Sign}
 use Rattle.cudf_job.specs.declared.aims.Sign.TheVariants.{Least, Most}
 use Rattle.cudf_job.specs.declared.criteria.Criteria.{Criteria}
 
--- ---- texts
-
-abbrev pub count_text : Count → List ℕ
-count_text Removed = codes "removed"
-count_text New = codes "new"
-count_text Changed = codes "changed"
-count_text NotUpToDate = codes "notuptodate"
-count_text UnsatRecommends = codes "unsat_recommends"
-count_text Touched = codes "touched"
+-- each count's name, and its number among the criteria
+abbrev pub count_row : Count → List ℕ × (Criteria → ℕ)
+count_row Removed = (codes "removed", λ c. c.removed)
+count_row New = (codes "new", λ c. c.new)
+count_row Changed = (codes "changed", λ c. c.changed)
+count_row NotUpToDate = (codes "notuptodate", λ c. c.notuptodate)
+count_row UnsatRecommends = (codes "unsat_recommends", λ c. c.unsat_recommends)
+count_row Touched = (codes "touched", λ c. c.touched)
 
 abbrev pub sign_text : Sign → List ℕ
 sign_text Least = codes "-"
@@ -23,14 +22,4 @@ sign_text Most = codes "+"
 
 -- the sign, and directly after it the name of the count, as `-removed`
 abbrev pub aim_text : Aim → List ℕ
-aim_text aim = sign_text aim.sign ++ count_text aim.count
-
--- ---- counts
-
-abbrev pub count_of : Criteria → Count → ℕ
-count_of c Removed = c.removed
-count_of c New = c.new
-count_of c Changed = c.changed
-count_of c NotUpToDate = c.notuptodate
-count_of c UnsatRecommends = c.unsat_recommends
-count_of c Touched = c.touched
+aim_text aim = sign_text aim.sign ++ (count_row aim.count).0

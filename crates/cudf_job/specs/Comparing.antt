@@ -8,7 +8,7 @@ use Rattle.cudf_job.specs.declared.aims.Aim.{Aim}
 use Rattle.cudf_job.specs.declared.aims.Sign.{Sign}
 use Rattle.cudf_job.specs.declared.aims.Sign.TheVariants.{Least, Most}
 use Rattle.cudf_job.specs.declared.criteria.Criteria.{Criteria}
-use Rattle.cudf_job.specs.Aims.{count_of}
+use Rattle.cudf_job.specs.Aims.{count_row}
 
 -- under `-` the lesser count is `Less`, under `+` it is `Greater`
 abbrev pub sign_cmp : Sign → ℕ → ℕ → Ordering
@@ -17,11 +17,11 @@ sign_cmp Most m n = nat_cmp n m
 
 -- the two compared by one count
 abbrev pub aim_cmp : Criteria → Criteria → Aim → Ordering
-aim_cmp c d aim = sign_cmp aim.sign (count_of c aim.count) (count_of d aim.count)
+aim_cmp c d aim = sign_cmp aim.sign ((count_row aim.count).1 c) ((count_row aim.count).1 d)
 
 -- their counts of this name differ
 abbrev pub differ_in : Criteria → Criteria → Aim → Bool
-differ_in c d aim = not (count_of c aim.count == count_of d aim.count)
+differ_in c d aim = not ((count_row aim.count).1 c == (count_row aim.count).1 d)
 
 -- the two compared by the first aim whose counts differ; `Equal` without such an aim
 abbrev pub compare : List Aim → Criteria → Criteria → Ordering

@@ -18,15 +18,9 @@ pub record PlainKey : Type 0 where
   pub place : ℕ
   pub aspect : Option Aspect
 
--- of a package's rule, of one of the request, and of an unknown stanza
-abbrev pub package_key : ℕ → Rule → ℕ → PlainKey
-package_key n rule place = record { part = Package n; rule = rule; place = place; aspect = None }
-
-abbrev pub request_key : Rule → ℕ → Option Aspect → PlainKey
-request_key rule place aspect = record { part = Request; rule = rule; place = place; aspect = aspect }
-
-abbrev pub unknown_key : ℕ → PlainKey
-unknown_key stanza = record { part = Solution; rule = Unknown; place = stanza; aspect = None }
+-- the key of these parts
+abbrev pub key_of : Part → Rule → ℕ → Option Aspect → PlainKey
+key_of part rule place aspect = record { part = part; rule = rule; place = place; aspect = aspect }
 
 -- ---- which parts fit each other
 
@@ -45,51 +39,50 @@ fits part rule aspect = false
 abbrev pub is_key : Part → Rule → ℕ → Option Aspect → Bool
 is_key part rule place aspect = fits part rule aspect && nat_lt 0 place
 
--- ---- order
+-- ---- order and texts of the pieces
 
--- packages, the request, the solution
-abbrev pub part_rank : Part → ℕ
-part_rank (Package n) = 1
-part_rank Request = 2
-part_rank Solution = 3
+-- each part's rank in the order of keys, and its text
+abbrev pub part_row : Part → ℕ × List ℕ
+part_row (Package n) = (1, codes "p" ++ decimal n)
+part_row Request = (2, codes "r")
+part_row Solution = (3, codes "s")
+
+-- each rule's
+abbrev pub rule_row : Rule → ℕ × List ℕ
+rule_row Depends = (1, codes "depends")
+rule_row Conflicts = (2, codes "conflicts")
+rule_row Keep = (3, codes "keep")
+rule_row Install = (4, codes "install")
+rule_row Remove = (5, codes "remove")
+rule_row Upgrade = (6, codes "upgrade")
+rule_row Unknown = (7, codes "unknown")
+
+-- each aspect's, where its text has the point before it
+abbrev pub aspect_row : Option Aspect → ℕ × List ℕ
+aspect_row None = (0, [])
+aspect_row (Some Unsatisfied) = (1, codes ".unsatisfied")
+aspect_row (Some Many) = (2, codes ".many")
+aspect_row (Some Lower) = (3, codes ".lower")
+
+-- ---- order
 
 -- the place of a package
 abbrev pub part_place : Part → ℕ
 part_place (Package n) = n
-part_place Request = 0
-part_place Solution = 0
-
-abbrev pub rule_rank : Rule → ℕ
-rule_rank Depends = 1
-rule_rank Conflicts = 2
-rule_rank Keep = 3
-rule_rank Install = 4
-rule_rank Remove = 5
-rule_rank Upgrade = 6
-rule_rank Unknown = 7
-
-abbrev pub aspect_rank : Option Aspect → ℕ
-aspect_rank None = 0
-aspect_rank (Some Unsatisfied) = 1
-aspect_rank (Some Many) = 2
-aspect_rank (Some Lower) = 3
+part_place _ = 0
 
 -- packages by place, the request, the solution; then the rule; then the place; then the aspect
 abbrev pub key_ranks : PlainKey → List ℕ
-key_ranks key = part_rank key.part ∷ part_place key.part ∷ rule_rank key.rule ∷ key.place ∷ aspect_rank key.aspect ∷ []
+key_ranks key = (part_row key.part).0 ∷ part_place key.part ∷ (rule_row key.rule).0 ∷ key.place ∷ (aspect_row key.aspect).0 ∷ []
 
 -- the first of these that differ tell which key comes first
 abbrev pub key_cmp : PlainKey → PlainKey → Ordering
 key_cmp a b = slice_cmp nat_cmp (key_ranks a) (key_ranks b)
 
--- the key comes before each of these
-abbrev pub precedes_all : PlainKey → List PlainKey → Bool
-precedes_all key keys = list_all (λ k. is_lt (key_cmp key k)) keys
-
 -- each key comes before all later ones
 abbrev pub ascend : List PlainKey → Bool
 ascend [] = true
-ascend (key ∷ keys) = precedes_all key keys && ascend keys
+ascend (key ∷ keys) = list_all (λ later. is_lt (key_cmp key later)) keys && ascend keys
 
 -- no key comes before an earlier one
 abbrev pub never_descend : List PlainKey → Bool
@@ -98,30 +91,6 @@ never_descend (key ∷ keys) = list_all (λ later. is_le (key_cmp key later)) ke
 
 -- ---- texts
 
-abbrev pub part_text : Part → List ℕ
-part_text (Package n) = codes "p" ++ decimal n
-part_text Request = codes "r"
-part_text Solution = codes "s"
-
-abbrev pub rule_text : Rule → List ℕ
-rule_text Depends = codes "depends"
-rule_text Conflicts = codes "conflicts"
-rule_text Keep = codes "keep"
-rule_text Install = codes "install"
-rule_text Remove = codes "remove"
-rule_text Upgrade = codes "upgrade"
-rule_text Unknown = codes "unknown"
-
-abbrev pub aspect_word : Aspect → List ℕ
-aspect_word Unsatisfied = codes "unsatisfied"
-aspect_word Many = codes "many"
-aspect_word Lower = codes "lower"
-
--- an aspect with the point before it
-abbrev pub aspect_text : Option Aspect → List ℕ
-aspect_text None = []
-aspect_text (Some aspect) = codes "." ++ aspect_word aspect
-
 -- a key, as `p1.depends.2` or `r.upgrade.1.many`
 abbrev pub key_text : PlainKey → List ℕ
-key_text key = part_text key.part ++ codes "." ++ rule_text key.rule ++ codes "." ++ decimal key.place ++ aspect_text key.aspect
+key_text key = (part_row key.part).1 ++ codes "." ++ (rule_row key.rule).1 ++ codes "." ++ decimal key.place ++ (aspect_row key.aspect).1

@@ -1,6 +1,6 @@
 -- The ranking of the solutions of a problem: own.
 use Rattle.std.specs.Prelude.{◌≡◌, ℕ, Bool, true, ◌==◌, ◌&&◌, not, List, [], ◌∷◌, if◌then◌else◌, IsTrue, IsPermutation}
-use Rattle.std.specs.List.{list_all}
+use Rattle.std.specs.List.{fold, list_all}
 use Rattle.std.specs.Ordering.{nat_cmp, ordering_then, is_lt}
 use Rattle.std.specs.declared.cmp.Ordering.{Ordering}
 use Rattle.std.specs.declared.cmp.Ordering.TheVariants.{Equal}
@@ -31,18 +31,13 @@ abbrev pub precedes : List Aim → Entrant → Entrant → Bool
 precedes aims a b = is_lt (compare_entrants aims a b)
 
 -- the entrants with x put before the first that it precedes, or at the end
-abbrev pub put : List Aim → Entrant → List Entrant → List Entrant
-put aims x [] = x ∷ []
-put aims x (y ∷ ys) = if precedes aims x y then x ∷ y ∷ ys else y ∷ put aims x ys
-
--- the ranked entrants with the others put among them, one after another
-abbrev pub put_all : List Aim → List Entrant → List Entrant → List Entrant
-put_all aims ranked [] = ranked
-put_all aims ranked (x ∷ xs) = put_all aims (put aims x ranked) xs
+abbrev pub put : List Aim → List Entrant → Entrant → List Entrant
+put aims [] x = x ∷ []
+put aims (y ∷ ys) x = if precedes aims x y then x ∷ y ∷ ys else y ∷ put aims ys x
 
 -- the entrants in the order of their rank, the best first
 unfoldable pub ranking : List Aim → List Entrant → List Entrant
-ranking aims entrants = put_all aims [] entrants
+ranking aims entrants = fold (put aims) [] entrants
 
 -- ---- what makes it the ranking
 

@@ -1,6 +1,6 @@
 //! What a proposed status changes and lacks, in numbers.
 ghost use Rattle.std.specs.Prelude.{◌≡◌};
-ghost use Rattle.cudf_job.specs.Aims.{count_of, count_text};
+ghost use Rattle.cudf_job.specs.Aims.{count_row};
 ghost use Rattle.cudf_job.specs.Vectors.{paranoid, trendy};
 
 /// The counts of the MISC competition's criteria. They are counted whether or not the proposed status is a solution;
@@ -37,7 +37,7 @@ pub enum Count {
 impl Criteria {
     /// The count of this name. Own.
     pub fn count(&self, count: Count) -> u64
-        ensures { result ≡ count_of self.now count }
+        ensures { result ≡ (count_row count).1 self.now }
     {
         match count {
             Count::Removed => self.removed,
@@ -73,7 +73,7 @@ impl Criteria {
 impl Count {
     /// The name of the count in a list of aims, as `notuptodate`.
     pub fn text(self) -> &'static str
-        ensures { result.now ≡ count_text self }
+        ensures { result.now ≡ (count_row self).0 }
     {
         match self {
             Count::Removed => "removed",

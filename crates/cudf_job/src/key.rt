@@ -106,11 +106,11 @@ impl Key {
 }
 
 impl Rule {
-    ghost use Rattle.cudf_job.specs.Keys.{rule_text};
+    ghost use Rattle.cudf_job.specs.Keys.{rule_row};
 
     /// The rule's word in a key.
     pub fn text(self) -> &'static str
-        ensures { result.now ≡ rule_text self }
+        ensures { result.now ≡ (rule_row self).1 }
     {
         match self {
             Rule::Depends => "depends",
@@ -125,7 +125,7 @@ impl Rule {
 }
 
 impl Aspect {
-    ghost use Rattle.cudf_job.specs.Keys.{aspect_word};
+    ghost use Rattle.cudf_job.specs.Promises.Keys.{aspect_word};
 
     /// The aspect's word in a key.
     pub fn text(self) -> &'static str
@@ -141,9 +141,9 @@ impl Aspect {
 
 impl fmt::Display for Part {
     ghost use Rattle.std.specs.Prelude.{Some};
-    ghost use Rattle.cudf_job.specs.Keys.{part_text};
+    ghost use Rattle.cudf_job.specs.Keys.{part_row};
 
-    ghost output = { λ part. Some (part_text part) };
+    ghost output = { λ part. Some (part_row part).1 };
 
     fn fmt<W: fmt::Write>(&self, f: &mut fmt::Formatter<W>) -> fmt::Result {
         match *self {

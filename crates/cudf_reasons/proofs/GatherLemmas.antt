@@ -5,7 +5,8 @@ use Rattle.std.specs.List.{flat_map}
 use Rattle.std.proofs.lemmas.Bool.{true≢false}
 use Rattle.std.proofs.lemmas.List.{append_assoc, drop-map, get_or-drop, get_or-map, get_or_default, length-map, map-append, take-append-drop, take-map}
 use Rattle.std.proofs.lemmas.List.Elements.{filter-append, filter_more}
-use Rattle.cudf_job.specs.Keys.{PlainKey, unknown_key}
+use Rattle.cudf_job.specs.Keys.{PlainKey}
+use Rattle.cudf_job.specs.Working.Keys.{unknown_key}
 use Rattle.cudf_job.specs.KeyViews.{key_view}
 use Rattle.cudf_job.specs.declared.key.Part.{Part}
 use Rattle.cudf_lrat.specs.declared.cnf.Literal.{Literal}

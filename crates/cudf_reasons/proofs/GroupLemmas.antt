@@ -5,7 +5,8 @@ use Rattle.std.specs.List.{list_all}
 use Rattle.std.specs.Ordering.{is_le, is_lt}
 use Rattle.std.specs.declared.cmp.Ordering.TheVariants.{Less}
 use Rattle.std.proofs.lemmas.Bool.{and_parts, and_from, cond-true, cond-false}
-use Rattle.cudf_job.specs.Keys.{PlainKey, ascend, key_cmp, precedes_all, never_descend}
+use Rattle.cudf_job.specs.Keys.{PlainKey, ascend, key_cmp, never_descend}
+use Rattle.cudf_job.specs.Working.Keys.{precedes_all}
 use Rattle.cudf_lrat.specs.declared.cnf.Literal.{Literal}
 use Rattle.cudf_reasons.specs.Laws.{keys_of}
 use Rattle.cudf_reasons.specs.Reasons.{Instance, Keyed, PlainReason, core_of, grouped, reason_of, same_key, with_clause}

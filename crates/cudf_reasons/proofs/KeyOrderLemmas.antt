@@ -9,7 +9,8 @@ use Rattle.std.specs.declared.cmp.Ordering.TheVariants.{Less, Equal, Greater}
 use Rattle.std.proofs.lemmas.Bool.{and_from, and_parts, cases_order}
 use Rattle.std.proofs.lemmas.Cmp.{on_total, nat_list_cmp_total, tied_itself}
 use Rattle.std.proofs.lemmas.List.{get_or-map, length-map}
-use Rattle.cudf_job.specs.Keys.{PlainKey, ascend, key_cmp, key_ranks, precedes_all, never_descend}
+use Rattle.cudf_job.specs.Keys.{PlainKey, ascend, key_cmp, key_ranks, never_descend}
+use Rattle.cudf_job.specs.Working.Keys.{precedes_all}
 use Rattle.cudf_job.proofs.KeyLemmas.{equal_keys}
 use Rattle.cudf_reasons.specs.Reasons.{PlainReason, same_key}
 use Rattle.cudf_reasons.specs.Working.Tables.{no_reason, reason_at}

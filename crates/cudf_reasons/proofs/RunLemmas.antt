@@ -8,7 +8,7 @@ use Rattle.std.specs.declared.cmp.Ordering.TheVariants.{Less, Equal, Greater}
 use Rattle.std.proofs.lemmas.Bool.{ltb-true, lt-ltb, le-ltb, le-leb, lt-leb, eqb-true, eq-eqb, ne_eqb, and_left, and_right, and_from, and_parts, or_cases, or_left, or_right, cases_eq, cases_lt}
 use Rattle.std.proofs.lemmas.Cmp.{ranked}
 use Rattle.std.proofs.lemmas.List.{get_or-map, length-map}
-use Rattle.cudf_job.specs.Keys.{PlainKey, key_cmp, part_place, part_rank, rule_rank}
+use Rattle.cudf_job.specs.Keys.{PlainKey, key_cmp, part_place, part_row, rule_row}
 use Rattle.cudf_job.specs.KeyViews.{key_view}
 use Rattle.cudf_job.specs.declared.key.Part.{Part}
 use Rattle.cudf_job.specs.declared.key.Part.TheVariants.{Package, Request, Solution}
@@ -33,7 +33,7 @@ less_or_same m n o h = by (nat_cmp m n) (ranked m n (nat_cmp m n) refl) h
     by Greater more e = absurd (cc e)
 
 -- the key before one that is before the place is before it too
-before_kept : (place : ℕ) (p q : Part) (o : Ordering) → ordering_then (nat_cmp (part_rank p) (part_rank q)) (ordering_then (nat_cmp (part_place p) (part_place q)) o) ≡ Less
+before_kept : (place : ℕ) (p q : Part) (o : Ordering) → ordering_then (nat_cmp (part_row p).0 (part_row q).0) (ordering_then (nat_cmp (part_place p) (part_place q)) o) ≡ Less
     → comes_before place q ≡ true → comes_before place p ≡ true
 before_kept place (Package m) (Package n) o h before = by (less_or_same m n o h)
   where
@@ -45,7 +45,7 @@ before_kept place Solution (Package n) o h before = absurd (cc h)
 before_kept place p Request o h before = absurd (cc before)
 before_kept place p Solution o h before = absurd (cc before)
 
-low : (s : Rule) → is_depends_or_conflicts s ≡ true → rule_rank s ≤ 2
+low : (s : Rule) → is_depends_or_conflicts s ≡ true → (rule_row s).0 ≤ 2
 low Depends h = omega arith
 low Conflicts h = omega arith
 low Keep h = absurd (cc h)
@@ -54,7 +54,7 @@ low Remove h = absurd (cc h)
 low Upgrade h = absurd (cc h)
 low Unknown h = absurd (cc h)
 
-from_low : (r : Rule) → rule_rank r ≤ 2 → is_depends_or_conflicts r ≡ true
+from_low : (r : Rule) → (rule_row r).0 ≤ 2 → is_depends_or_conflicts r ≡ true
 from_low Depends h = refl
 from_low Conflicts h = refl
 from_low Keep h = absurd (omega arith)
@@ -63,10 +63,10 @@ from_low Remove h = absurd (omega arith)
 from_low Upgrade h = absurd (omega arith)
 from_low Unknown h = absurd (omega arith)
 
-rule_kept : (r s : Rule) (o : Ordering) → ordering_then (nat_cmp (rule_rank r) (rule_rank s)) o ≡ Less → is_depends_or_conflicts s ≡ true → is_depends_or_conflicts r ≡ true
-rule_kept r s o h those = by (less_or_same (rule_rank r) (rule_rank s) o h)
+rule_kept : (r s : Rule) (o : Ordering) → ordering_then (nat_cmp (rule_row r).0 (rule_row s).0) o ≡ Less → is_depends_or_conflicts s ≡ true → is_depends_or_conflicts r ≡ true
+rule_kept r s o h those = by (less_or_same (rule_row r).0 (rule_row s).0 o h)
   where
-    by : (rule_rank r < rule_rank s) ⊎ ((rule_rank r ≡ rule_rank s) × (o ≡ Less)) → is_depends_or_conflicts r ≡ true
+    by : ((rule_row r).0 < (rule_row s).0) ⊎ (((rule_row r).0 ≡ (rule_row s).0) × (o ≡ Less)) → is_depends_or_conflicts r ≡ true
     by (inl less) = from_low r (omega (arith, low s those))
     by (inr same) = from_low r (omega (arith, low s those, same.0))
 
@@ -75,12 +75,12 @@ upto place part rule = comes_before place part || (is_of place part && is_depend
 
 -- the key before one that is before the end of the package's is so too
 upto_kept : (place : ℕ) (p q : Part) (r s : Rule) (o : Ordering)
-    → ordering_then (nat_cmp (part_rank p) (part_rank q)) (ordering_then (nat_cmp (part_place p) (part_place q)) (ordering_then (nat_cmp (rule_rank r) (rule_rank s)) o)) ≡ Less
+    → ordering_then (nat_cmp (part_row p).0 (part_row q).0) (ordering_then (nat_cmp (part_place p) (part_place q)) (ordering_then (nat_cmp (rule_row r).0 (rule_row s).0) o)) ≡ Less
     → upto place q s ≡ true → upto place p r ≡ true
 upto_kept place (Package m) (Package n) r s o h those =
-    by (less_or_same m n (ordering_then (nat_cmp (rule_rank r) (rule_rank s)) o) h) (or_cases (nat_lt n place) ((n == place) && is_depends_or_conflicts s) those)
+    by (less_or_same m n (ordering_then (nat_cmp (rule_row r).0 (rule_row s).0) o) h) (or_cases (nat_lt n place) ((n == place) && is_depends_or_conflicts s) those)
   where
-    by : (m < n) ⊎ ((m ≡ n) × (ordering_then (nat_cmp (rule_rank r) (rule_rank s)) o ≡ Less)) → (nat_lt n place ≡ true) ⊎ (((n == place) && is_depends_or_conflicts s) ≡ true) → upto place (Package m) r ≡ true
+    by : (m < n) ⊎ ((m ≡ n) × (ordering_then (nat_cmp (rule_row r).0 (rule_row s).0) o ≡ Less)) → (nat_lt n place ≡ true) ⊎ (((n == place) && is_depends_or_conflicts s) ≡ true) → upto place (Package m) r ≡ true
     by (inl less) (inl before) = or_left (nat_lt m place) _ (lt-ltb m place (omega (arith, ltb-true n place before)))
     by (inl less) (inr here) = or_left (nat_lt m place) _ (lt-ltb m place (omega (arith, eqb-true n place (and_parts (n == place) (is_depends_or_conflicts s) here).0)))
     by (inr same) (inl before) = or_left (nat_lt m place) _ (lt-ltb m place (omega (arith, same.0, ltb-true n place before)))

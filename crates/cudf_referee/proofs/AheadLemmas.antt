@@ -19,7 +19,7 @@ use Rattle.cudf_job.specs.declared.key.Rule.{Rule}
 use Rattle.cudf_job.specs.declared.key.Rule.TheVariants as rule
 use Rattle.cudf_job.specs.declared.key.Aspect.{Aspect}
 use Rattle.cudf_referee.specs.declared.left.candidate.Left.{Left}
-use Rattle.cudf_job.specs.Keys.{PlainKey, part_rank, part_place, is_key, rule_rank, aspect_rank, key_ranks}
+use Rattle.cudf_job.specs.Keys.{PlainKey, key_of, part_row, part_place, is_key, rule_row, aspect_row, key_ranks}
 use Rattle.cudf_referee.specs.Proposals.{Proposal}
 use Rattle.cudf_referee.specs.Violations.{package_instances, request_instances, unknown_instance}
 use Rattle.cudf_referee.specs.Promises.Stops.{Stop, stop_at, package_end, package_stops, precedes, precedes_end, is_after}
@@ -72,13 +72,13 @@ place_decides place k aspect = by (nat_lt place k) (place == k) aspect
 -- ---- the packages before and after it
 
 -- the ranks of a key of this part
-pub ranks_of : (key : PlainKey) (p : Part) → key.part ≡ p → (part_rank p ∷ part_place p ∷ rule_rank key.rule ∷ key.place ∷ aspect_rank key.aspect ∷ []) ≡ key_ranks key
-ranks_of key p of = ap (λ q. part_rank q ∷ part_place q ∷ rule_rank key.rule ∷ key.place ∷ aspect_rank key.aspect ∷ []) (sym of)
+pub ranks_of : (key : PlainKey) (p : Part) → key.part ≡ p → ((part_row p).0 ∷ part_place p ∷ (rule_row key.rule).0 ∷ key.place ∷ (aspect_row key.aspect).0 ∷ []) ≡ key_ranks key
+ranks_of key p of = ap (λ q. (part_row q).0 ∷ part_place q ∷ (rule_row key.rule).0 ∷ key.place ∷ (aspect_row key.aspect).0 ∷ []) (sym of)
 
 module _ (s : Proposal) (key : PlainKey) where
   -- a key's ranks after its package
   abbrev more : List ℕ
-  more = rule_rank key.rule ∷ key.place ∷ aspect_rank key.aspect ∷ []
+  more = (rule_row key.rule).0 ∷ key.place ∷ (aspect_row key.aspect).0 ∷ []
 
   earlier_package : (n : ℕ) (p : Placed) → key.part ≡ part.Package n → p.0 < n → filter (is_after key) (package_stops s p) ≡ []
   earlier_package n p of h =
@@ -134,9 +134,6 @@ packages_before s key h =
 
 -- ---- the request
 
-abbrev pub key_of : Part → Rule → ℕ → Option Aspect → PlainKey
-key_of p r place aspect = record { part = p; rule = r; place = place; aspect = aspect }
-
 pub package_counted : (n : ℕ) (r : Rule) (place : ℕ) (aspect : Option Aspect) → is_key (part.Package n) r place aspect ≡ true → 0 < n
 package_counted n rule.Depends place None h = ltb-true 0 n (and_left (nat_lt 0 n) (nat_lt 0 place) h)
 package_counted n rule.Conflicts place None h = ltb-true 0 n (and_left (nat_lt 0 n) (nat_lt 0 place) h)
@@ -150,7 +147,7 @@ pub unknown_after : (place : ℕ) (aspect : Option Aspect) (unknown : List Plain
 unknown_after place aspect unknown =
     filter-map (λ x. precedes (key_of part.Solution rule.Unknown place aspect) x.key) unknown_instance unknown
     ∙ ap (map unknown_instance) (filter_agree (λ u. precedes (key_of part.Solution rule.Unknown place aspect) (unknown_instance u).key) (λ u. nat_lt place u.stanza)
-    (λ u. place_decides place u.stanza (aspect_rank aspect)) unknown)
+    (λ u. place_decides place u.stanza (aspect_row aspect).0) unknown)
 
 -- the unknown stanzas come after the keys of the other parts
 pub all_unknown_after : (key : PlainKey) → ((u : PlainUnknown) → precedes key (unknown_instance u).key ≡ true) → (unknown : List PlainUnknown)

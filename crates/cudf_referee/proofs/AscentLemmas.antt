@@ -14,7 +14,8 @@ use Rattle.cudf_problem.specs.Universe.{PlainPackage, PlainProblem, PlainRequest
 use Rattle.cudf_problem.specs.Statuses.{PlainUnknown, ascend_above}
 use Rattle.cudf_index.specs.Satisfaction.{Placed}
 use Rattle.cudf_referee.specs.Instances.{keep_feature, PlainInstance}
-use Rattle.cudf_job.specs.Keys.{PlainKey, key_ranks, precedes_all, ascend}
+use Rattle.cudf_job.specs.Keys.{PlainKey, key_ranks, ascend}
+use Rattle.cudf_job.specs.Working.Keys.{precedes_all}
 use Rattle.cudf_referee.specs.Proposals.{Proposal, everything, holds_place}
 use Rattle.cudf_referee.specs.Violations.{unknown_instance, needed_instances, kept_instances, package_instances, entry_instances, request_instances, instances, problem_instances, is_violated, listing}
 use Rattle.cudf_referee.specs.Working.RuleInstances.{depends_instance, conflicts_instance, keep_instance, install_instance, remove_instance}

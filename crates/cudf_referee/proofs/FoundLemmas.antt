@@ -10,7 +10,7 @@ use Rattle.std.proofs.lemmas.List.Folds.{find-append}
 use Rattle.cudf_problem.specs.Universe.{PlainPackage, PlainProblem}
 use Rattle.cudf_index.specs.Satisfaction.{Placed}
 use Rattle.cudf_job.specs.declared.key.Part.TheVariants as part
-use Rattle.cudf_job.specs.Keys.{PlainKey, rule_rank, aspect_rank, key_ranks}
+use Rattle.cudf_job.specs.Keys.{PlainKey, rule_row, aspect_row, key_ranks}
 use Rattle.cudf_referee.specs.Instances.{PlainInstance}
 use Rattle.cudf_referee.specs.Proposals.{Proposal, everything}
 use Rattle.cudf_referee.specs.Violations.{package_instances, request_instances, instance_of}
@@ -41,7 +41,7 @@ module _ (key : PlainKey) where
       ∙ after_it (instance_ranks x) xs high h.1 more
 
   abbrev more : List ℕ
-  more = rule_rank key.rule ∷ key.place ∷ aspect_rank key.aspect ∷ []
+  more = (rule_row key.rule).0 ∷ key.place ∷ (aspect_row key.aspect).0 ∷ []
 
   -- ---- a package
 

@@ -8,7 +8,8 @@ use Rattle.std.proofs.lemmas.List.Sums.{sum_by-cons}
 use Rattle.std.proofs.Math.Seq.{take-add}
 use Rattle.cudf_index.specs.Promises.Prices.{digits}
 use Rattle.cudf_referee.specs.Instances.{PlainInstance}
-use Rattle.cudf_job.specs.Keys.{PlainKey, precedes_all, ascend, key_text}
+use Rattle.cudf_job.specs.Keys.{PlainKey, ascend, key_text}
+use Rattle.cudf_job.specs.Working.Keys.{precedes_all}
 use Rattle.cudf_job.specs.Promises.Keys.{IsWritable}
 use Rattle.cudf_referee.specs.Proposals.{Proposal}
 use Rattle.cudf_referee.specs.Violations.{listing, rest}

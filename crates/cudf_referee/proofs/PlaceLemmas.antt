@@ -8,12 +8,12 @@ use Rattle.cudf_job.specs.declared.key.Part.TheVariants as part
 use Rattle.cudf_job.specs.declared.key.Rule.{Rule}
 use Rattle.cudf_job.specs.declared.key.Rule.TheVariants as rule
 use Rattle.cudf_job.specs.declared.key.Aspect.{Aspect}
-use Rattle.cudf_job.specs.Keys.{is_key}
+use Rattle.cudf_job.specs.Keys.{key_of, is_key}
 use Rattle.cudf_referee.specs.Proposals.{Proposal}
 use Rattle.cudf_referee.specs.Promises.Stops.{Stop, stop_at, package_stops, walk, PlainPosition, at_start, at_key, at_end, is_after, is_ahead}
 use Rattle.cudf_referee.specs.Violations.{request_instances, unknown_instance}
 use Rattle.cudf_referee.specs.Working.Places.{IsFitting, unknown_behind, unknown_ahead}
-use Rattle.cudf_referee.proofs.AheadLemmas.{key_of, unknown_after, all_unknown_after}
+use Rattle.cudf_referee.proofs.AheadLemmas.{unknown_after, all_unknown_after}
 use Rattle.cudf_referee.proofs.ListLemmas.{filter-map, all_kept, none_kept}
 
 -- ---- the stops before the unknown stanzas

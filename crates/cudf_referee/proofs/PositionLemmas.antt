@@ -12,7 +12,7 @@ use Rattle.cudf_job.specs.declared.key.Part.{Part}
 use Rattle.cudf_job.specs.declared.key.Part.TheVariants.{Package, Request, Solution}
 use Rattle.cudf_job.specs.declared.key.Rule.{Rule}
 use Rattle.cudf_job.specs.declared.key.Rule.TheVariants.{Depends, Conflicts, Keep, Install, Remove, Upgrade, Unknown}
-use Rattle.cudf_job.specs.Keys.{PlainKey, part_rank, part_place, rule_rank, aspect_rank, key_ranks}
+use Rattle.cudf_job.specs.Keys.{PlainKey, part_row, part_place, rule_row, aspect_row, key_ranks}
 use Rattle.cudf_referee.specs.Proposals.{Proposal}
 use Rattle.cudf_referee.specs.Promises.Stops.{Stop, stop_at, package_end, walk, stop_cost, PlainPosition, at_start, at_key, at_end, precedes, precedes_end, is_after, is_ahead, cost_between}
 use Rattle.std.proofs.lemmas.Grind.{common_steps}
@@ -46,7 +46,7 @@ abbrev pub stop_ranks : Stop → List ℕ
 stop_ranks (stop_at i) = key_ranks i.key
 stop_ranks (package_end place) = 1 ∷ place ∷ 8 ∷ []
 
-pub rule_below : (r : Rule) → rule_rank r < 8
+pub rule_below : (r : Rule) → (rule_row r).0 < 8
 rule_below Depends = lit< tt
 rule_below Conflicts = lit< tt
 rule_below Keep = lit< tt
@@ -56,7 +56,7 @@ rule_below Upgrade = lit< tt
 rule_below Unknown = lit< tt
 
 end_ranks : (p : Part) (n r : ℕ) (more : List ℕ) → r < 8
-    → precedes_end p n ≡ is_lt (slice_cmp nat_cmp (part_rank p ∷ part_place p ∷ r ∷ more) (1 ∷ n ∷ 8 ∷ []))
+    → precedes_end p n ≡ is_lt (slice_cmp nat_cmp ((part_row p).0 ∷ part_place p ∷ r ∷ more) (1 ∷ n ∷ 8 ∷ []))
 end_ranks (Package m) n r more h = by (nat_lt m n) (m == n) (grind (arith, nat_tests))
   where
     by : (below same : Bool) → nat_le m n ≡ (below || same) → nat_le m n ≡ is_lt (ordering_then (cond below Less (cond same Equal Greater)) (ordering_then (nat_cmp r 8) (slice_cmp nat_cmp more [])))
@@ -69,7 +69,7 @@ end_ranks Solution n r more h = refl
 -- a stop comes after a key where its ranks do
 pub is_after-ranks : (k : PlainKey) (x : Stop) → is_after k x ≡ is_lt (slice_cmp nat_cmp (key_ranks k) (stop_ranks x))
 is_after-ranks k (stop_at i) = refl
-is_after-ranks k (package_end n) = end_ranks k.part n (rule_rank k.rule) (k.place ∷ aspect_rank k.aspect ∷ []) (rule_below k.rule)
+is_after-ranks k (package_end n) = end_ranks k.part n (rule_row k.rule).0 (k.place ∷ (aspect_row k.aspect).0 ∷ []) (rule_below k.rule)
 
 -- ---- positions
 

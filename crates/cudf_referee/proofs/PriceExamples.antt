@@ -13,7 +13,8 @@ use Rattle.cudf_job.specs.declared.key.Rule.{Rule}
 use Rattle.cudf_job.specs.declared.key.Rule.TheVariants as rule
 use Rattle.cudf_job.specs.declared.key.Aspect.{Aspect}
 use Rattle.cudf_job.specs.declared.key.Aspect.TheVariants.{Unsatisfied}
-use Rattle.cudf_job.specs.Keys.{PlainKey, package_key, request_key, unknown_key}
+use Rattle.cudf_job.specs.Keys.{PlainKey}
+use Rattle.cudf_job.specs.Working.Keys.{package_key, request_key, unknown_key}
 use Rattle.cudf_referee.specs.Proposals.{Proposal}
 use Rattle.cudf_referee.specs.Violations.{listing}
 use Rattle.cudf_referee.specs.Promises.Stops.{walk, at_start, at_key, at_end, stops_between, least_between}

@@ -13,11 +13,19 @@ use Rattle.cudf_referee.specs.Instances.{keep_feature, PlainInstance}
 use Rattle.cudf_referee.specs.Proposals.{Proposal, holds_place, proposal}
 use Rattle.cudf_referee.specs.Violations.{unknown_instance, of_each, needed_instances, kept_instances, package_instances, entry_instances, request_instances, has_package, are_many, are_lower, is_violated, listing}
 use Rattle.cudf_referee.specs.Working.RuleInstances.{depends_instance, conflicts_instance, keep_instance, install_instance, remove_instance}
-use Rattle.cudf_referee.specs.Solutions.{has_its_depends, has_no_conflict, is_kept, are_equal, are_at_least, is_upgraded, is_solution}
+use Rattle.cudf_referee.specs.Solutions.{is_kept, are_equal, are_at_least, is_upgraded, is_solution}
 use Rattle.cudf_referee.proofs.ListLemmas.{and_true, and_false, not_not, list_all-same, list_all-flat_map, is_empty-filter, list_all-enumerate, list_all-and, list_all-filter, list_any-none}
 use Rattle.cudf_referee.proofs.StatusLemmas.{holds, holds-filter, holds-own, list_all-held}
 
 -- ---- entries
+
+-- the status satisfies each conjunct of the package's `depends`
+abbrev has_its_depends : List Placed → Placed → Bool
+has_its_depends status (place, p) = list_all (satisfies_clause status) p.depends
+
+-- the status without the package satisfies no entry of its `conflicts`
+abbrev has_no_conflict : List Placed → Placed → Bool
+has_no_conflict status (place, p) = list_all (λ v. not (satisfies (without place status) v)) p.conflicts
 
 -- none of these instances is violated
 abbrev pub none_violated : Proposal → List PlainInstance → Bool

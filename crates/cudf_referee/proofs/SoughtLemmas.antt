@@ -7,7 +7,8 @@ use Rattle.std.specs.declared.cmp.Ordering.{Ordering}
 use Rattle.std.specs.declared.cmp.Ordering.TheVariants.{Less, Equal, Greater}
 use Rattle.std.proofs.lemmas.Cmp.{nat_list_cmp_total}
 use Rattle.std.proofs.lemmas.List.Elements.{filter_agree}
-use Rattle.cudf_job.specs.Keys.{PlainKey, key_ranks, key_cmp, precedes_all, ascend}
+use Rattle.cudf_job.specs.Keys.{PlainKey, key_ranks, key_cmp, ascend}
+use Rattle.cudf_job.specs.Working.Keys.{precedes_all}
 use Rattle.cudf_referee.specs.Instances.{PlainInstance}
 use Rattle.cudf_referee.specs.Promises.Stops.{precedes}
 use Rattle.cudf_referee.specs.Working.Sought.{has_key, after_key, IsRest, Seeks}

@@ -14,7 +14,8 @@ use Rattle.cudf_job.specs.declared.key.Rule.TheVariants as rule
 use Rattle.cudf_job.specs.declared.key.Aspect.{Aspect}
 use Rattle.cudf_referee.specs.Instances.{PlainInstance}
 use Rattle.cudf_job.specs.Promises.Keys.{IsWritable}
-use Rattle.cudf_job.specs.Keys.{package_key, request_key, fits}
+use Rattle.cudf_job.specs.Keys.{fits}
+use Rattle.cudf_job.specs.Working.Keys.{package_key, request_key}
 use Rattle.cudf_referee.specs.Proposals.{Proposal}
 use Rattle.cudf_referee.specs.Violations.{unknown_instance, instances, is_violated, listing}
 use Rattle.cudf_referee.specs.Working.Numbered.{IsListed, IsNumbered}

@@ -11,14 +11,6 @@ use Rattle.cudf_problem.specs.Documents.{is_empty}
 use Rattle.cudf_referee.specs.Proposals.{holds_place, Proposal}
 use Rattle.cudf_referee.specs.Violations.{has_package}
 
--- the status satisfies each conjunct of the package's `depends`
-abbrev pub has_its_depends : List Placed → Placed → Bool
-has_its_depends status (place, p) = list_all (satisfies_clause status) p.depends
-
--- the status without the package satisfies no entry of its `conflicts`
-abbrev pub has_no_conflict : List Placed → Placed → Bool
-has_no_conflict status (place, p) = list_all (λ v. not (satisfies (without place status) v)) p.conflicts
-
 -- what is to be kept of the package is there: itself, its name at some version, or all that it provides
 abbrev pub is_kept : List Placed → Keep → Placed → Bool
 is_kept status Version (place, p) = holds_place status place
@@ -41,12 +33,13 @@ is_upgraded before status v =
     && are_equal (numbers_of v.name status)
     && are_at_least (numbers_of v.name before) (numbers_of v.name status)
 
--- the proposed status is a solution
+-- the proposed status is a solution: no stanza is unknown, each proposed package has what it depends on and no other that it
+-- conflicts with, what is to be kept is there, and the request is met
 unfoldable pub is_solution : Proposal → Bool
 is_solution s =
     is_empty s.unknown
-    && list_all (has_its_depends s.proposed) s.proposed
-    && list_all (has_no_conflict s.proposed) s.proposed
+    && list_all (λ (place, p). list_all (satisfies_clause s.proposed) p.depends) s.proposed
+    && list_all (λ (place, p). list_all (λ v. not (satisfies (without place s.proposed) v)) p.conflicts) s.proposed
     && list_all (λ (place, p). is_kept s.proposed p.keep (place, p)) s.initial
     && list_all (satisfies s.proposed) s.problem.request.install
     && list_all (λ v. not (satisfies s.proposed v)) s.problem.request.remove

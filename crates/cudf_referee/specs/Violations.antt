@@ -8,7 +8,6 @@ use Rattle.std.specs.Ordering.{is_eq, is_lt}
 use Rattle.cudf_value.specs.Vpkgs.{PlainVpkg}
 use Rattle.cudf_problem.specs.declared.package.Keep.{Keep}
 use Rattle.cudf_problem.specs.declared.package.Keep.TheVariants.{Version, Package, Feature, Nothing}
-use Rattle.cudf_problem.specs.Ids.{Id}
 use Rattle.cudf_problem.specs.Universe.{PlainProblem, PlainRequest}
 use Rattle.cudf_problem.specs.Statuses.{PlainUnknown}
 use Rattle.cudf_index.specs.Satisfaction.{Placed, without, numbers_of, satisfies, satisfies_clause, first_meeting}
@@ -18,27 +17,25 @@ use Rattle.cudf_job.specs.declared.key.Rule.{Rule}
 use Rattle.cudf_job.specs.declared.key.Rule.TheVariants as rule
 use Rattle.cudf_job.specs.declared.key.Aspect.{Aspect}
 use Rattle.cudf_job.specs.declared.key.Aspect.TheVariants.{Unsatisfied, Many, Lower}
-use Rattle.cudf_job.specs.Keys.{PlainKey, part_place, package_key, request_key, unknown_key, key_cmp}
+use Rattle.cudf_job.specs.Keys.{PlainKey, key_of, part_place, key_cmp}
 use Rattle.cudf_referee.specs.Instances.{PlainWhat, needs, conflicts_with, keep_version, keep_package, keep_feature, install, remove, upgrade, unknown, PlainInstance}
 use Rattle.cudf_referee.specs.Proposals.{everything, holds_place, Proposal}
 
 -- ---- the instances of each rule
 
--- an instance by its parts: its key, the line of its stanza, the package or pair that it is about, and what it says
-abbrev pub instance : PlainKey → ℕ → Option Id → PlainWhat → PlainInstance
-instance key line subject what = record { key = key; line = line; subject = subject; what = what }
-
 -- of a package's rule, with this number
 abbrev pub at_package : Placed → Rule → ℕ → PlainWhat → PlainInstance
-at_package (place, p) rule number what = instance (package_key place rule number) p.line (Some (p.name, p.version)) what
+at_package (place, p) rule number what =
+    record { key = key_of (part.Package place) rule number None; line = p.line; subject = Some (p.name, p.version); what = what }
 
 -- of a rule of the request, with this number
 abbrev pub at_request : PlainRequest → Rule → ℕ → Option Aspect → PlainWhat → PlainInstance
-at_request request rule number aspect what = instance (request_key rule number aspect) request.line None what
+at_request request rule number aspect what = record { key = key_of part.Request rule number aspect; line = request.line; subject = None; what = what }
 
 -- of an unknown stanza
 abbrev pub unknown_instance : PlainUnknown → PlainInstance
-unknown_instance u = instance (unknown_key u.stanza) u.line (Some (u.name, u.version)) unknown
+unknown_instance u =
+    record { key = key_of part.Solution rule.Unknown u.stanza None; line = u.line; subject = Some (u.name, u.version); what = unknown }
 
 -- ---- all of them, in key order
 
@@ -93,8 +90,7 @@ instance_of problem key = find (λ i. is_eq (key_cmp i.key key)) (problem_instan
 -- a status less the package that a part is
 abbrev pub others : Part → List Placed → List Placed
 others (part.Package n) status = without n status
-others part.Request status = status
-others part.Solution status = status
+others _ status = status
 
 -- the status has a package of this name
 abbrev pub has_package : List Placed → List ℕ → Bool

@@ -4,7 +4,7 @@ ghost use Rattle.cudf_value.specs.Promises.Views.{vpkg_view, atom_view, clause_v
 ghost use Rattle.cudf_value.specs.Printing.{vpkg_text, atom_text, clause_text};
 ghost use Rattle.cudf_problem.specs.Promises.Views.{package_view};
 ghost use Rattle.cudf_problem.specs.Universe.{PlainProblem, package_at};
-ghost use Rattle.cudf_job.specs.Keys.{key_text, part_text, aspect_text};
+ghost use Rattle.cudf_job.specs.Keys.{key_text, part_row, aspect_row};
 ghost use Rattle.cudf_job.specs.KeyViews.{key_view};
 ghost use Rattle.cudf_referee.specs.Promises.Views.{instance_view, what_view};
 ghost use Rattle.cudf_check.specs.Report.{meeting_text, met_text, upgrade_text, what_text, subject_text};
@@ -147,7 +147,7 @@ fn print_what<W: Sink>(
 
 /// Prints the part of a key.
 fn print_part<W: Sink>(paper: &mut Paper<'_, W>, part: Part)
-    ensures { Says W.state paper.old paper.new (part_text part) }
+    ensures { Says W.state paper.old paper.new (part_row part).1 }
 {
     match part {
         Part::Package(place) => {
@@ -160,8 +160,9 @@ fn print_part<W: Sink>(paper: &mut Paper<'_, W>, part: Part)
 }
 
 /// Prints the aspect of a key, if it has one.
+#[tactic(auto, using(cudf_job::proofs::KeyTextLemmas::dotted))]
 fn print_key_aspect<W: Sink>(paper: &mut Paper<'_, W>, aspect: Option<Aspect>)
-    ensures { Says W.state paper.old paper.new (aspect_text aspect) }
+    ensures { Says W.state paper.old paper.new (aspect_row aspect).1 }
 {
     if let Some(aspect) = aspect {
         paper.text(".");

@@ -1,6 +1,6 @@
 //! Prints what a proposed status changes and lacks, counted.
 ghost use Rattle.std.specs.List.{flat_map};
-ghost use Rattle.cudf_job.specs.Aims.{count_of, count_text};
+ghost use Rattle.cudf_job.specs.Aims.{count_row};
 ghost use Rattle.cudf_check.specs.Report.{criteria_text, count_line, vector_line};
 ghost use Rattle.cudf_device.specs.Promises.PaperInside.{Says};
 
@@ -19,7 +19,7 @@ pub(crate) fn print_count<W: Sink>(paper: &mut Paper<'_, W>, name: &str, count: 
 
 /// Prints a line for each count.
 fn print_counts<W: Sink>(paper: &mut Paper<'_, W>, criteria: &Criteria, counts: &[Count])
-    ensures { Says W.state paper.old paper.new (flat_map (λ count. count_line (count_text count) (count_of criteria.now count)) counts.now) }
+    ensures { Says W.state paper.old paper.new (flat_map (λ count. count_line (count_row count).0 ((count_row count).1 criteria.now)) counts.now) }
 {
     for count in counts {
         print_count(paper, count.text(), criteria.count(*count));

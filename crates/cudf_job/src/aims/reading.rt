@@ -1,6 +1,6 @@
 //! Lists of aims that are read from their texts.
 ghost use Rattle.std.specs.Prelude.{◌≡◌, ◌++◌, ℕ, List, IfSome, IfNone, IfOk, option_map, bytes_eq, find};
-ghost use Rattle.cudf_job.specs.Aims.{count_text, sign_text};
+ghost use Rattle.cudf_job.specs.Aims.{count_row, sign_text};
 ghost use Rattle.cudf_job.specs.Promises.Aims.{all_counts, aim_of, criterion};
 
 use crate::aims::{Aim, Sign};
@@ -57,7 +57,7 @@ impl Sign {
 impl Count {
     /// The count of this name.
     fn parse(name: &str) -> Option<Count>
-        ensures { result ≡ find (λ count. bytes_eq name.now (count_text count)) all_counts }
+        ensures { result ≡ find (λ count. bytes_eq name.now (count_row count).0) all_counts }
     {
         match name {
             "removed" => Some(Count::Removed),

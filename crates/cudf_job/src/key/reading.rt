@@ -1,8 +1,8 @@
 //! Keys that are read from their texts.
 ghost use Rattle.std.specs.Prelude.{◌≡◌, ℕ, ◌<◌, ◌^◌, ◌++◌, ◌∷◌, ◌&&◌, List, Option, Some, None, IfSome, IsSomeAnd, IsTrue, option_map, decimal, if◌then◌else◌};
 ghost use Rattle.cudf_job.specs.KeyViews.{key_view};
-ghost use Rattle.cudf_job.specs.Keys.{PlainKey, fits, is_key, part_place, part_text, rule_text, aspect_word, aspect_text, key_text};
-ghost use Rattle.cudf_job.specs.Promises.Keys.{IsWritable};
+ghost use Rattle.cudf_job.specs.Keys.{PlainKey, fits, is_key, part_place, part_row, rule_row, aspect_row, key_text};
+ghost use Rattle.cudf_job.specs.Promises.Keys.{IsWritable, aspect_word};
 ghost use Rattle.cudf_job.specs.Working.KeyTexts.{has_no_point};
 
 use crate::key::{Aspect, Key, Part, Rule};
@@ -37,8 +37,8 @@ impl Key {
 
 impl Part {
     fn parse(text: &str) -> Option<Part>
-        ensures printed { IfSome result (λ part. part_text part ≡ text.now) }
-        ensures exact { (part : Part) → part_place part < 2 ^ 64 → part_text part ≡ text.now → result ≡ Some part }
+        ensures printed { IfSome result (λ part. (part_row part).1 ≡ text.now) }
+        ensures exact { (part : Part) → part_place part < 2 ^ 64 → (part_row part).1 ≡ text.now → result ≡ Some part }
     {
         match text {
             "r" => Some(Part::Request),
@@ -68,8 +68,8 @@ impl Part {
 
 impl Rule {
     fn parse(text: &str) -> Option<Rule>
-        ensures printed { IfSome result (λ rule. rule_text rule ≡ text.now) }
-        ensures exact { (rule : Rule) → rule_text rule ≡ text.now → result ≡ Some rule }
+        ensures printed { IfSome result (λ rule. (rule_row rule).1 ≡ text.now) }
+        ensures exact { (rule : Rule) → (rule_row rule).1 ≡ text.now → result ≡ Some rule }
     {
         match text {
             "depends" => Some(Rule::Depends),
@@ -99,9 +99,10 @@ impl Aspect {
 }
 
 /// The place, and the aspect after it if there is one.
+#[tactic(auto, using(crate::proofs::KeyTextLemmas::dotted))]
 fn place_and_aspect(text: &str) -> Option<(u64, Option<Aspect>)>
-    ensures printed { IfSome result (λ r. decimal r.0 ++ aspect_text r.1 ≡ text.now) }
-    ensures exact { (place : ℕ) (aspect : Option Aspect) → place < 2 ^ 64 → decimal place ++ aspect_text aspect ≡ text.now
+    ensures printed { IfSome result (λ r. decimal r.0 ++ (aspect_row r.1).1 ≡ text.now) }
+    ensures exact { (place : ℕ) (aspect : Option Aspect) → place < 2 ^ 64 → decimal place ++ (aspect_row aspect).1 ≡ text.now
         → result ≡ Some (place, aspect) }
 {
     match split_at_point(text) {

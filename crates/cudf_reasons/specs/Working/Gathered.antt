@@ -1,6 +1,7 @@
 -- The places of CNF clauses.
 use Rattle.std.specs.Prelude.{ℕ, Bool, not, List, map, filter, slice_index_or}
-use Rattle.cudf_job.specs.Keys.{PlainKey, unknown_key}
+use Rattle.cudf_job.specs.Keys.{PlainKey}
+use Rattle.cudf_job.specs.Working.Keys.{unknown_key}
 use Rattle.cudf_job.specs.declared.key.Part.{Part}
 use Rattle.cudf_lrat.specs.declared.cnf.Literal.{Literal}
 use Rattle.cudf_reasons.specs.Laws.{keys_of}

@@ -1,6 +1,6 @@
 -- Reasons in a table.
 use Rattle.std.specs.Prelude.{ℕ, ◌≤◌, List, [], length, slice_range, slice_index_or}
-use Rattle.cudf_job.specs.Keys.{unknown_key}
+use Rattle.cudf_job.specs.Working.Keys.{unknown_key}
 use Rattle.cudf_job.specs.KeyViews.{key_view}
 use Rattle.cudf_reasons.specs.Reasons.{PlainReason}
 use Rattle.cudf_reasons.specs.Views.{Told, told_as}
