@@ -44,7 +44,7 @@ LAWS = {"ascending": {"check", "all"}, "empty": {"check", "refute", "all"}}
 # what isn't followed: exact texts, and without `--explain` and `-H` the style that these ask for, by a law of cudf_check
 TEXTS, STYLE, PLAIN = {"cnf_answer", "cnf_better", "refute_answer", "refute_better"}, "style_of", "plain"
 # and what a text means, of commands of which the headline says the text
-MEANINGS, MEANT = {"Means", "HasWritten"}, {"cnf", "refute", "all"}
+MEANINGS, MEANT = {"Means"}, {"cnf", "refute", "all"}
 PROOFS_BY_HAND = {f"crates/cudf_index/proofs/steps/mark/Mark/{name}/Proof.antt" for name in ("grow", "new")}
 
 # a whole `use`, to the end of the line, or of the line on which its braces end; and the two forms that are read

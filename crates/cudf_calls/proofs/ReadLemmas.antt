@@ -8,7 +8,7 @@ use Rattle.cudf_check.specs.Runs.{Runs}
 use Rattle.cudf_command_line.specs.declared.command.Order.{Order}
 use Rattle.cudf_device.specs.Device.{SourceState}
 use Rattle.cudf_device.specs.Outcomes.{Report}
-use Rattle.cudf_device.specs.Readers.{Change, change}
+use Rattle.cudf_device.specs.Readers.{Change}
 use Rattle.cudf_device.specs.declared.outcome.Outcome.{Outcome}
 use Rattle.cudf_device.specs.declared.outcome.RunError.{RunError}
 use Rattle.cudf_device.specs.declared.outcome.RunError.TheVariants as errors
@@ -59,7 +59,7 @@ module _ (order : Order) (first : Input) (others : List Input) (reader : Change 
   abbrev answer : Report
   answer = report order.job order.mode (labels order.names_files first others) first.text.now (texts_of others)
 
-  module _ (outcome : Outcome) (runs : Runs (report order.job order.mode) reader readers (change front_state old new) (Ok outcome)) where
+  module _ (outcome : Outcome) (runs : Runs (report order.job order.mode (reader_names reader readers)) reader readers (front_state old) (front_state new) (Ok outcome)) where
     done : Appends (front_state old).contents (front_state new).contents answer.text × (outcome ≡ answer.outcome)
     done =
         let read = runs.done in
@@ -76,19 +76,19 @@ module _ (order : Order) (first : Input) (others : List Input) (reader : Change 
     run_written none = let shown = front_shows old new answer.text done.0 none in record { outcome_is = done.1; length_is = shown.0; shown = shown.1 }
 
   -- nothing was written: no write failed
-  same : (error : RunError) → Runs (report order.job order.mode) reader readers (change front_state old new) (Err error)
+  same : (error : RunError) → Runs (report order.job order.mode (reader_names reader readers)) reader readers (front_state old) (front_state new) (Err error)
       → Keeps (front_state old).contents (front_state new).contents
   same errors.Read runs = runs.untouched (λ is. absurd (cc is))
   same errors.TooLong runs = runs.untouched (λ is. absurd (cc is))
   same errors.Write runs = let failed : 0 < 0 = runs.write.0 refl in absurd (omega (arith, failed))
   same errors.Memory runs = runs.untouched (λ is. absurd (cc is))
 
-  pub run_named-ended : (error : RunError) → Runs (report order.job order.mode) reader readers (change front_state old new) (Err error)
+  pub run_named-ended : (error : RunError) → Runs (report order.job order.mode (reader_names reader readers)) reader readers (front_state old) (front_state new) (Err error)
       → new.room.ghost_name ≡ old.room.ghost_name
   run_named-ended error runs = front_named-same old new (same error runs)
 
   -- a call ends as its run did
-  pub run_ended : (error : RunError) (result : Result Outcome Stop) → Runs (report order.job order.mode) reader readers (change front_state old new) (Err error)
+  pub run_ended : (error : RunError) (result : Result Outcome Stop) → Runs (report order.job order.mode (reader_names reader readers)) reader readers (front_state old) (front_state new) (Err error)
       → IsErr result × IsErrAnd result (λ stop. stop ≡ Memory) → MatchResult result (IsWritten answer old new) (IsUnwritten old new)
   run_ended error (Ok outcome) runs is = absurd (cc is.0)
   run_ended error (Err stop) runs is = record { why = is.1; kept = front_kept old new (same error runs) }

@@ -1,5 +1,5 @@
 -- One more solution is judged.
-use Rattle.std.proofs.Common.{◌≡◌, ℕ, zero, suc, ◌+◌, ◌<◌, ◌≤◌, ◌==◌, Bool, true, false, not, eqb-true, List, [], ◌∷◌, ◌++◌, length, map, drop, get_or, Option, Some, option_map, slice_get, refl, sym, ap, ◌∙◌, append_assoc, append-nil, arith}
+use Rattle.std.proofs.Common.{◌≡◌, ℕ, zero, suc, ◌+◌, ◌<◌, ◌≤◌, ◌==◌, Bool, true, false, not, eqb-true, List, [], ◌∷◌, ◌++◌, length, map, drop, get_or, Some, option_map, slice_get, refl, sym, ap, ◌∙◌, append_assoc, append-nil, arith}
 use Rattle.std.proofs.lemmas.Bool.{and_from as both}
 use Rattle.std.specs.List.{filter_map, cons_option, enumerate_from, list_all}
 use Rattle.cudf_problem.specs.declared.mode.Mode.{Mode}
@@ -7,13 +7,9 @@ use Rattle.cudf_text.specs.declared.fault.Fault.{Fault}
 use Rattle.cudf_document.specs.declared.error.ReadError.{ReadError}
 use Rattle.cudf_document.specs.declared.error.ReadError.TheVariants as read_error
 use Rattle.cudf_problem.specs.Universe.{PlainProblem}
-use Rattle.cudf_check.specs.Naming.{name_at, own_file}
-use Rattle.cudf_check.specs.JobStyles.{named_style}
-use Rattle.cudf_check.specs.RankReport.{placed_fault, placed_faults, entrant_of, entrant_word, entrants, first_faulty_or}
-use Rattle.cudf_check.specs.Report.{faulty, solution_fault}
-use Rattle.cudf_check.specs.Styles.{of_solution}
-use Rattle.cudf_device.specs.Outcomes.{Report}
-use Rattle.cudf_check.specs.Working.Judged.{IsJudged, AreJudged, IsFaultAt}
+use Rattle.cudf_check.specs.RankReport.{placed_faults, entrants}
+use Rattle.cudf_check.specs.Report.{solution_fault}
+use Rattle.cudf_check.specs.Working.Judged.{IsJudged, AreJudged, IsFaultAt, entrant_of, placed_fault}
 use Rattle.cudf_check.specs.Working.Unjudged.{IsFaultOf}
 use Rattle.cudf_job.specs.Ranking.{have_own_places}
 use Rattle.cudf_job.specs.declared.ranking.Judgement.{Judgement}
@@ -72,13 +68,6 @@ all_judged mode problem view xs n ss end m = record {
     none_left [] (suc n) end = refl
     none_left (x ∷ xs) zero end = absurd (omega arith)
     none_left (x ∷ xs) (suc n) end = none_left xs n (omega arith)
-
--- the report where the first faulty one was found
-pub first_is : (names : List (Option (List ℕ))) (faults : List (ℕ × Fault)) (report : Report) (place : ℕ) (f : Fault) → slice_get faults 0 ≡ Some (place, f)
-    → faulty (named_style (own_file (name_at names place))) of_solution (entrant_word (name_at names place) place) f ≡ first_faulty_or names faults report
-first_is names [] report place f is = absurd (cc is)
-first_is names (first ∷ others) report place f is =
-    let same : first ≡ (place, f) = cc in ap (λ x. faulty (named_style (own_file (name_at names x.0))) of_solution (entrant_word (name_at names x.0) x.0) x.1) (sym same)
 
 -- ---- the first that is faulty
 

@@ -1,6 +1,7 @@
 -- What is written with `Yes` means what it is to.
 use Rattle.std.proofs.Common.{append-nil, filter, ◌≡◌, ◌<◌, ◌-◌, ◌||◌, inl, inr, ℕ, zero, suc, Bool, true, false, List, [], ◌∷◌, ◌++◌, length, map, filter_map, slice_get, get_or, Option, Some, None, option_map, Result, Ok, Err, IfOk, Contains, codes, refl, ap, sym, subst, ◌∙◌, arith, if◌then◌else◌}
 use Rattle.std.specs.List.{AllZip, cons_option, flat_map, list_any}
+use Rattle.std.specs.Io.KnownBytes.{Appends}
 use Rattle.std.specs.Str.{is_utf8}
 use Rattle.std.specs.Option.{option_map_or}
 use Rattle.std.proofs.lemmas.List.Elements.{Contains-append_left}
@@ -50,11 +51,13 @@ use Rattle.cudf_device.specs.Readers.{Change, OfOne, ReadsAll}
 use Rattle.cudf_check.specs.BetterReport.{best_text, better_report, cnf_better, judged_as, refute_better}
 use Rattle.cudf_check.specs.JobReport.{report}
 use Rattle.cudf_check.specs.JobStyles.{input_at, refutation_style}
-use Rattle.cudf_check.specs.Meanings.{Encodes, EncodesBetter, HasWritten, IsBest, Means, Refutes, put_forward}
+use Rattle.cudf_check.specs.Meanings.{Encodes, EncodesBetter, IsBest, Means, Refutes, put_forward}
 use Rattle.cudf_check.specs.Naming.{Names}
 use Rattle.cudf_check.specs.RankReport.{judgement}
-use Rattle.cudf_check.specs.Report.{checked_report, cnf_answer, core_text, dimacs, faulty_or, line, needed, problem_fault, problem_report, proof_report, proposal_of, reason_line, refute_answer, rules_of, solution_fault, told_line, unless_too_large, with_yes}
+use Rattle.cudf_check.specs.Runs.{HasRead}
+use Rattle.cudf_check.specs.Report.{checked_report, cnf_answer, core_text, dimacs, line, needed, problem_fault, problem_report, proof_report, proposal_of, reason_line, refute_answer, rules_of, solution_fault, told_line, unless_too_large, with_yes}
 use Rattle.cudf_check.specs.Styles.{Style, of_problem, of_solution, plainly}
+use Rattle.cudf_check.specs.Working.Unjudged.{faulty_or}
 use Rattle.cudf_device.specs.Outcomes.{Report}
 use Rattle.cudf_device.specs.Promises.Answering.{Answers}
 use Rattle.cudf_device.specs.declared.outcome.Outcome.{Outcome}
@@ -292,14 +295,13 @@ module _ (is_core : RefutedIsCore) (satisfies : SolutionSatisfies) (better : Bet
       (λ none. counted P plainly mode answer_of solution problem (λ solves. is_best s (distinct_pairs mode bytes none) solves aims.items is_core best plainly (input_at others 0))) ends
 
   pub run_means : (job : Job) (mode : Mode) (names : Names) (first : Change SourceState) (others : List (Change SourceState)) (out : Change SinkState) (bytes : List ℕ) (texts : List (List ℕ)) (result : Result Outcome RunError)
-      → ReadsAll first bytes → AllZip ReadsAll others texts → Answers out.before out.after (report job mode names bytes texts) result → IfOk result (λ outcome. outcome ≡ Yes → HasWritten (Means job) first others out)
+      → ReadsAll first bytes → AllZip ReadsAll others texts → Answers out.before out.after (report job mode names bytes texts) result
+      → IfOk result (λ outcome. outcome ≡ Yes → HasRead first others (λ bytes texts. (text : List ℕ) × Appends out.before.contents out.after.contents text × Means job bytes texts text))
   run_means job mode names first others out bytes texts (Err e) read reads answers = tt
   run_means job mode names first others out bytes texts (Ok outcome) read reads answers = λ ends. record {
-    bytes = bytes;
+    text = bytes;
     texts = texts;
-    text = (report job mode names bytes texts).text;
-    read = read;
+    first_read = read;
     others_read = reads;
-    written = answers.ok.written;
-    holds = report_means job mode names bytes texts (sym answers.ok.answered ∙ ends);
+    holds = ((report job mode names bytes texts).text, answers.ok.written, report_means job mode names bytes texts (sym answers.ok.answered ∙ ends));
   }

@@ -1,6 +1,7 @@
 -- What of the listing lies after the last key of a page.
 use Rattle.std.proofs.Common.{◌≡◌, inl, inr, ℕ, zero, suc, ◌+◌, Bool, true, false, ◌&&◌, cond, List, [], ◌∷◌, ◌++◌, map, filter, length, get_or, take, drop, ◌-◌, ◌<◌, ◌≤◌, arith, drop-cons, Option, Some, None, option_map, refl, sym, ap, ◌∙◌, append_assoc, append-nil, add-one, take-append-drop, codes, if◌then◌else◌}
 use Rattle.std.specs.List.{flat_map, last_or}
+use Rattle.std.specs.Option.{option_map_or}
 use Rattle.std.specs.Ordering.{is_lt, ordering_reverse}
 use Rattle.std.proofs.lemmas.Bool.{true≢false}
 use Rattle.std.proofs.lemmas.Cmp.{nat_list_cmp_total}
@@ -14,10 +15,10 @@ use Rattle.cudf_job.specs.KeyViews.{key_view}
 use Rattle.cudf_referee.specs.Proposals.{Proposal}
 use Rattle.cudf_referee.specs.Violations.{listing, rest}
 use Rattle.cudf_check.specs.Styles.{Style}
-use Rattle.cudf_check.specs.Report.{line, instance_line, listed, limited, more_text, check_text}
+use Rattle.cudf_check.specs.Report.{line, instance_line, more_text, check_text}
 use Rattle.cudf_referee.specs.Promises.Pages as pages
 use Rattle.cudf_referee.specs.Promises.Walks.{Walking, left}
-use Rattle.cudf_check.specs.Working.Pages.{Ascends, IsPageEnd, IsEnded, end_key, more_after, more_behind}
+use Rattle.cudf_check.specs.Working.Pages.{Ascends, IsPageEnd, IsEnded, end_key, listed, more_after, more_behind}
 use Rattle.cudf_job.proofs.RankingLemmas.{and_left, and_right, is_less}
 
 -- ---- the order of keys
@@ -272,7 +273,7 @@ nothing_listed : (s : Proposal) (after : Option PlainKey) → listing s ≡ [] �
 nothing_listed s None none = none
 nothing_listed s (Some key) none = ap (behind key) none
 
-nothing_limited : (limit : Option ℕ) (is : List PlainInstance) → is ≡ [] → limited limit is ≡ []
+nothing_limited : (limit : Option ℕ) (is : List PlainInstance) → is ≡ [] → option_map_or (λ n. take n is) limit is ≡ []
 nothing_limited None is none = none
 nothing_limited (Some limit) is none = take-nothing limit is none
 

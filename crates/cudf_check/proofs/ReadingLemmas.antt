@@ -31,16 +31,17 @@ use Rattle.cudf_cnf.specs.Cnf.{clauses_of, cnf, is_too_large}
 use Rattle.cudf_device.specs.Outcomes.{Report}
 use Rattle.cudf_device.specs.declared.outcome.Outcome.TheVariants.{Fail}
 use Rattle.cudf_check.specs.BetterReport.{better_report, cnf_better, refute_better}
-use Rattle.cudf_check.specs.JobStyles.{explains, input_at, inputs_style, pair_style, refutation_style}
+use Rattle.cudf_check.specs.JobStyles.{explains, input_at, inputs_style, pair_style, ranking_style, refutation_style}
+use Rattle.cudf_check.specs.RankReport.{solutions_report}
 use Rattle.cudf_check.specs.Explanations.{listed_in, listed_text, met_added}
 use Rattle.cudf_check.specs.Naming.{Names, PlainOrigin, PlainOrigins, name_at, own_file}
 use Rattle.cudf_check.specs.JobReport.{inputs_report, report}
-use Rattle.cudf_check.specs.Report.{alone, check_text, core_text, verdict, faulty_or, problem_fault, solution_fault, proposal_of, judged_report, problem_report, solution_report, proof_report, refute_answer, unless_too_large}
+use Rattle.cudf_check.specs.Report.{alone, check_text, core_text, verdict, problem_fault, solution_fault, proposal_of, judged_report, problem_report, solution_report, proof_report, refute_answer, unless_too_large}
 use Rattle.cudf_check.specs.Styles.{Style, of_solution, plainly}
 use Rattle.cudf_check.specs.Working.Found.{found_text}
 use Rattle.cudf_check.specs.Working.Named.{instance_style, listed_by, other_names, proof_style}
 use Rattle.cudf_check.specs.declared.naming.Given.{Given}
-use Rattle.cudf_check.specs.Working.Unjudged.{IsFaultOf}
+use Rattle.cudf_check.specs.Working.Unjudged.{IsFaultOf, faulty_or}
 use Rattle.cudf_check.proofs.PageLemmas.{no-page}
 
 -- ---- what a result says
@@ -178,6 +179,21 @@ pub pair_of : (job : Job) (mode : Mode) (names : Names) (input : List ℕ) (othe
 unfolding report
 pair_of job mode names input others (inl check) = subst (λ j. judged_inputs j mode names input others ≡ report j mode names input others) (sym check.3) refl
 pair_of job mode names input others (inr score) = subst (λ j. judged_inputs j mode names input others ≡ report j mode names input others) (sym score.1) refl
+
+-- so do one that ranks solutions, and one that checks a proof
+pub rank_of : (aims : Vec Aim Global) (job : Job) (mode : Mode) (names : Names) (input : List ℕ) (others : List (List ℕ)) → job ≡ Rank aims → (list : List Aim) → list ≡ aims.items
+    → problem_report (ranking_style names) mode input (λ p. solutions_report (ranking_style names) list mode p others) ≡ report job mode names input others
+unfolding report
+rank_of aims job mode names input others is list list_is =
+    (λ k. problem_report (ranking_style names) mode input (λ p. solutions_report (ranking_style names) (list_is k) mode p others))
+    ∙ subst (λ j. problem_report (ranking_style names) mode input (λ p. solutions_report (ranking_style names) aims.items mode p others) ≡ report j mode names input others) (sym is) refl
+
+pub refute_of : (explain : Bool) (job : Job) (mode : Mode) (names : Names) (input : List ℕ) (others : List (List ℕ)) → job ≡ Refute explain → (proof : List ℕ) → proof ≡ input_at others 0
+    → problem_report (refutation_style explain input proof) mode input (refute_answer (refutation_style explain input proof) proof) ≡ report job mode names input others
+unfolding report
+refute_of explain job mode names input others is proof proof_is =
+    (λ k. problem_report (refutation_style explain input (proof_is k)) mode input (refute_answer (refutation_style explain input (proof_is k)) (proof_is k)))
+    ∙ subst (λ j. problem_report (refutation_style explain input (input_at others 0)) mode input (refute_answer (refutation_style explain input (input_at others 0)) (input_at others 0)) ≡ report j mode names input others) (sym is) refl
 
 -- and so does one that asks for a better solution
 pub cnf_better_of : (aims : Vec Aim Global) (job : Job) (mode : Mode) (names : Names) (input : List ℕ) (others : List (List ℕ)) → job ≡ CnfBetter aims

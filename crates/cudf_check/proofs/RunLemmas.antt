@@ -5,25 +5,19 @@ use Rattle.std.proofs.KnownBytes.{Keeps-refl}
 use Rattle.cudf_device.specs.declared.outcome.Outcome.{Outcome}
 use Rattle.cudf_device.specs.declared.outcome.RunError.{RunError}
 use Rattle.cudf_device.specs.declared.outcome.RunError.TheVariants.{Read, TooLong, Write, Memory}
-use Rattle.cudf_device.specs.Device.{SourceState, SinkState, failed_writes}
+use Rattle.cudf_device.specs.Device.{SourceState, SinkState}
 use Rattle.cudf_device.specs.Readers.{Change, ReadsAll, IsUnfinished, IsTooLong, StopsInTime, OfOne}
-use Rattle.cudf_check.specs.Naming.{Names, names_of}
 use Rattle.cudf_device.specs.Outcomes.{Report}
-use Rattle.cudf_check.specs.Runs.{HoldsOfReport, Runs}
+use Rattle.cudf_check.specs.Runs.{HasRead, Runs}
 use Rattle.cudf_device.specs.Promises.Answering.{Answers}
-use Rattle.cudf_device.proofs.CallLemmas.{none_more}
 use Rattle.cudf_device.proofs.CommonLemmas.{none_below, same_error}
 use Rattle.cudf_device.proofs.InputsLemmas.{WasRead}
 
--- nothing was written
-abbrev still : SinkState → Change SinkState
-still out = record { before = out; after = out }
-
 -- the reading of the first input ended in an error, and so did the run
-pub first_stopped : {T : Type 0} (answer : Names → List ℕ → List (List ℕ) → Report) (first : Change SourceState) (others : List (Change SourceState)) (out : SinkState)
+pub first_stopped : {T : Type 0} (answer : List ℕ → List (List ℕ) → Report) (first : Change SourceState) (others : List (Change SourceState)) (out : SinkState)
     (reading : Result T RunError) (e : RunError) (result : Result Outcome RunError) → (OfOne IsTooLong others → ⊥) → (OfOne IsUnfinished others → ⊥) → reading ≡ Err e
     → (IsErrOf reading TooLong ↔ IsTooLong first) → (IsErrOf reading Read ↔ IsUnfinished first) → (reading ≡ Err Write → ⊥)
-    → IsErr result × IsErrAnd result (λ y. y ≡ e) → Runs answer first others (still out) result
+    → IsErr result × IsErrAnd result (λ y. y ≡ e) → Runs answer first others out out result
 first_stopped answer first others out reading e (Ok outcome) none_long none_unfinished is too_long unfinished no_write same = absurd same.1
 first_stopped answer first others out reading e (Err y) none_long none_unfinished is too_long unfinished no_write same =
     let error : y ≡ e = same.1 in
@@ -34,7 +28,6 @@ first_stopped answer first others out reading e (Err y) none_long none_unfinishe
       read = (λ h. inl (unfinished.0 (is ∙ ap Err (sym error ∙ same_error h))), read_back error);
       too_long = (λ h. inl (too_long.0 (is ∙ ap Err (sym error ∙ same_error h))), long_back error);
       write = (λ h. absurd (no_write (is ∙ ap Err (sym error ∙ same_error h))), λ below. absurd (none_below out.failures out.failures refl below));
-      stops = none_more failed_writes out.failures out.last;
     }
   where
     read_back : y ≡ e → IsUnfinished first ⊎ OfOne IsUnfinished others → IsErrOf {T = Outcome} (Err y) Read
@@ -52,7 +45,7 @@ pub record WereRead (others : List (Change SourceState)) (texts : List (List ℕ
   pub short : OfOne IsTooLong others → ⊥
 
 -- all was read, and answered
-module _ (answer : Names → List ℕ → List (List ℕ) → Report) (first : Change SourceState) (text : List ℕ) (others : List (Change SourceState)) (texts : List (List ℕ))
+module _ (answer : List ℕ → List (List ℕ) → Report) (first : Change SourceState) (text : List ℕ) (others : List (Change SourceState)) (texts : List (List ℕ))
     (was : WasRead first text) (were : WereRead others texts) where
   none_unfinished : IsUnfinished first ⊎ OfOne IsUnfinished others → ⊥
   none_unfinished (inl h) = was.finished h
@@ -62,30 +55,28 @@ module _ (answer : Names → List ℕ → List (List ℕ) → Report) (first : C
   none_too_long (inl h) = was.short h
   none_too_long (inr h) = were.short h
 
-  of_report : (P : Report → Type 0) → P (answer (names_of first others) text texts) → HoldsOfReport answer first others P
-  of_report P holds = record { text = text; texts = texts; first_read = was.all; others_read = were.all; holds = holds }
+  all_read : (P : List ℕ → List (List ℕ) → Type 0) → P text texts → HasRead first others P
+  all_read P holds = record { text = text; texts = texts; first_read = was.all; others_read = were.all; holds = holds }
 
-  pub all_answered : (before after : SinkState) (result : Result Outcome RunError) → Answers before after (answer (names_of first others) text texts) result
-      → Runs answer first others (record { before = before; after = after }) result
+  pub all_answered : (before after : SinkState) (result : Result Outcome RunError) → Answers before after (answer text texts) result
+      → Runs answer first others before after result
   all_answered before after (Ok outcome) m = record {
-    done = of_report _ (m.ok.written, m.ok.answered);
+    done = all_read _ (m.ok.written, m.ok.answered);
     cut_short = λ h. absurd (cc h);
     untouched = tt;
     read = (λ h. absurd (cc h), λ h. absurd (none_unfinished h));
     too_long = (λ h. absurd (cc h), λ h. absurd (none_too_long h));
     write = m.failed;
-    stops = m.stops;
   }
   all_answered before after (Err Read) m = absurd m.only
   all_answered before after (Err TooLong) m = absurd m.only
   all_answered before after (Err Write) m = record {
     done = tt;
-    cut_short = λ h. of_report _ m.leaves;
+    cut_short = λ h. all_read _ m.leaves;
     untouched = λ other. absurd (other refl);
     read = (λ h. absurd (cc h), λ h. absurd (none_unfinished h));
     too_long = (λ h. absurd (cc h), λ h. absurd (none_too_long h));
     write = m.failed;
-    stops = m.stops;
   }
   all_answered before after (Err Memory) m = record {
     done = tt;
@@ -94,7 +85,6 @@ module _ (answer : Names → List ℕ → List (List ℕ) → Report) (first : C
     read = (λ h. absurd (cc h), λ h. absurd (none_unfinished h));
     too_long = (λ h. absurd (cc h), λ h. absurd (none_too_long h));
     write = m.failed;
-    stops = m.stops;
   }
 
 -- a reading that ended well

@@ -1,6 +1,7 @@
 -- Whether a solution is the best one: a CNF that each better solution satisfies, or a check of a proof that there is none. Own.
 use Rattle.std.specs.Prelude.{ℕ, false, List, ◌++◌, codes}
 use Rattle.std.specs.List.{flat_map}
+use Rattle.std.specs.Option.{option_map_or}
 use Rattle.cudf_problem.specs.Universe.{PlainProblem}
 use Rattle.cudf_problem.specs.declared.mode.Mode.{Mode}
 use Rattle.cudf_job.specs.declared.aims.Aim.{Aim}
@@ -9,7 +10,7 @@ use Rattle.cudf_job.specs.declared.ranking.Judgement.{Judgement}
 use Rattle.cudf_job.specs.declared.ranking.Judgement.TheVariants.{Solution, NoSolution, SaysFail}
 use Rattle.cudf_better.specs.Encodings.{better_cnf, is_too_large}
 use Rattle.cudf_check.specs.RankReport.{judgement}
-use Rattle.cudf_check.specs.Report.{aim_line, alone, checked_report, dimacs, faulty_or, line, solution_fault, unless_too_large, verdict, with_yes}
+use Rattle.cudf_check.specs.Report.{aim_line, alone, checked_report, dimacs, faulty, line, solution_fault, unless_too_large, verdict, with_yes}
 use Rattle.cudf_check.specs.Styles.{of_solution, Style}
 use Rattle.cudf_device.specs.Outcomes.{Report}
 use Rattle.cudf_device.specs.declared.outcome.Outcome.TheVariants.{Fail}
@@ -23,7 +24,8 @@ judged_as answer_of SaysFail = alone (codes "solution FAIL") Fail
 -- of a problem that has no fault and a solution: the solution's fault, or else what is answered of it
 abbrev pub better_report : Style → Mode → (PlainProblem → Criteria → Report) → List ℕ → PlainProblem → Report
 better_report style mode answer_of solution problem =
-    faulty_or style of_solution (codes "solution") (solution_fault mode problem.extra_names solution) (judged_as (answer_of problem) (judgement problem solution))
+    option_map_or (faulty style of_solution (codes "solution")) (solution_fault mode problem.extra_names solution)
+    (judged_as (answer_of problem) (judgement problem solution))
 
 -- the clauses of a problem, and that a status compares better than some counts: they are printed
 abbrev pub cnf_better : List Aim → PlainProblem → Criteria → Report

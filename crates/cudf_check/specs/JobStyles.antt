@@ -7,9 +7,9 @@ use Rattle.cudf_document.specs.Details.{PlainDetail, fault_detail}
 use Rattle.cudf_job.specs.declared.job.Job.{Job}
 use Rattle.cudf_job.specs.declared.job.Job.TheVariants.{Lint, Check, Score, Rank, Refute}
 use Rattle.cudf_check.specs.Explanations.{listed_in, instance_added, reason_added, detail_added}
-use Rattle.cudf_check.specs.Naming.{Names, PlainOrigin, PlainOrigins, named_before, numbered, one_file, origin_of, own_file, own_files}
+use Rattle.cudf_check.specs.Naming.{Names, PlainOrigin, PlainOrigins, entrant_name, entrant_word, name_at, named_before, numbered, one_file, origin_of, own_file, own_files, ranked_origin}
 use Rattle.cudf_check.specs.ProofDetails.{proof_added}
-use Rattle.cudf_check.specs.Styles.{Document, of_problem, of_solution, Style, plainly}
+use Rattle.cudf_check.specs.Styles.{Document, of_problem, Style, plainly}
 
 -- the job asks for explained lines
 abbrev pub explains : Job → Bool
@@ -29,7 +29,7 @@ detail_if explain bytes f = if explain then fault_detail bytes f else None
 -- of the problem, or of the solution
 abbrev pub by_document : {A : Type 0} → A → A → Document → A
 by_document problem solution of_problem = problem
-by_document problem solution of_solution = solution
+by_document problem solution _ = solution
 
 -- of a document: lines name its file, if it is given, and none is explained
 abbrev pub named_style : Option PlainOrigin → Style
@@ -57,11 +57,20 @@ abbrev pub inputs_style : Bool → Names → List ℕ → Option (List ℕ) → 
 inputs_style explain names input None = pair_style explain (one_file (problem_part input) names) (problem_part input) (solution_part input)
 inputs_style explain names input (Some solution) = pair_style explain (own_files names) input solution
 
+-- of a ranking: lines name the files of the problem and of the solutions, where they have names
+abbrev pub ranking_style : Names → Style
+ranking_style names = record plainly {
+  prefix = λ document. named_before (ranked_origin names document);
+  location = λ document. numbered (ranked_origin names document);
+  entrant = λ place. entrant_name (name_at names.others place) place;
+  faulty_entrant = λ place. entrant_word (name_at names.others place) place;
+}
+
 -- the job's; of a CNF no line names a file
 abbrev pub style_of : Job → Names → List ℕ → List (List ℕ) → Style
 style_of (Lint explain) names input others = document_style explain (own_file names.first) input
 style_of (Check after limit explain) names input others = inputs_style explain names input (slice_get others 0)
 style_of (Score aims) names input others = inputs_style false names input (slice_get others 0)
-style_of (Rank aims) names input others = named_style (own_file names.first)
+style_of (Rank aims) names input others = ranking_style names
 style_of (Refute explain) names input others = refutation_style explain input (input_at others 0)
 style_of _ names input others = plainly

@@ -1,8 +1,7 @@
 -- What `cnf` and `refute` have written, by its meaning. Own.
 use Rattle.std.specs.Prelude.{◌≡◌, ◌+◌, ℕ, Bool, true, List, [], ◌++◌, length, Contains, codes}
-use Rattle.std.specs.List.{AllZip, flat_map, list_all}
+use Rattle.std.specs.List.{flat_map, list_all}
 use Rattle.std.specs.declared.cmp.Ordering.TheVariants.{Less}
-use Rattle.std.specs.Io.KnownBytes.{Appends}
 use Rattle.cudf_text.specs.Stanzas.{plain_text}
 use Rattle.cudf_problem.specs.Statuses.{PlainUnknown}
 use Rattle.cudf_problem.specs.Universe.{PlainProblem, plain_problem}
@@ -19,8 +18,7 @@ use Rattle.cudf_referee.specs.Solutions.{is_solution}
 use Rattle.cudf_referee.specs.Violations.{listing}
 use Rattle.cudf_cnf.specs.Laws.{proposed}
 use Rattle.cudf_better.specs.Laws.{Satisfied}
-use Rattle.cudf_device.specs.Device.{SinkState, SourceState}
-use Rattle.cudf_device.specs.Readers.{Change, OfOne, ReadsAll}
+use Rattle.cudf_device.specs.Readers.{OfOne}
 use Rattle.cudf_check.specs.JobStyles.{input_at, style_of}
 use Rattle.cudf_check.specs.Naming.{unnamed}
 use Rattle.cudf_check.specs.Report.{dimacs, line, proposal_of, reason_line}
@@ -65,13 +63,3 @@ Means (CnfBetter aims) bytes others text = EncodesBetter aims.items (put_forward
 Means (Refute explain) bytes others text = Refutes (style_of (Refute explain) unnamed bytes []) (plain_problem (plain_text bytes)) text
 Means (RefuteBetter aims) bytes others text = IsBest aims.items (put_forward bytes (input_at others 1))
 Means job bytes others text = Unit {0}
-
--- the inputs were read whole, and this holds of their bytes and of the text that was written
-pub record HasWritten (P : List ℕ → List (List ℕ) → List ℕ → Type 0) (first : Change SourceState) (others : List (Change SourceState)) (out : Change SinkState) : Type 0 where
-  pub bytes : List ℕ
-  pub texts : List (List ℕ)
-  pub text : List ℕ
-  pub read : ReadsAll first bytes
-  pub others_read : AllZip ReadsAll others texts
-  pub written : Appends out.before.contents out.after.contents text
-  pub holds : P bytes texts text

@@ -5,7 +5,7 @@ use Rattle.cudf_referee.specs.Criteria.{at_most_max}
 use Rattle.cudf_device.specs.Readers.{Change}
 use Rattle.cudf_device.specs.Device.{SourceState}
 use Rattle.cudf_check.specs.Shown.{shown}
-use Rattle.cudf_check.specs.Styles.{Document, of_problem, of_solution}
+use Rattle.cudf_check.specs.Styles.{Document, of_problem, of_entrant}
 
 -- ---- the readers
 
@@ -58,7 +58,12 @@ one_file problem names = record {
 -- that of this document
 abbrev pub origin_of : PlainOrigins → Document → Option PlainOrigin
 origin_of origins of_problem = origins.problem
-origin_of origins of_solution = origins.solution
+origin_of origins _ = origins.solution
+
+-- that of the problem of a ranking, or of the solution at a place
+abbrev pub ranked_origin : Names → Document → Option PlainOrigin
+ranked_origin names (of_entrant place) = own_file (name_at names.others place)
+ranked_origin names _ = own_file names.first
 
 -- ---- the lines
 
@@ -76,3 +81,13 @@ named_before (Some origin) n = shown origin.file ++ codes ":" ++ decimal (line_i
 abbrev pub numbered : Option PlainOrigin → ℕ → List ℕ
 numbered None n = codes " line " ++ decimal n
 numbered (Some origin) n = []
+
+-- the name of a ranked solution's file, or else its place
+abbrev pub entrant_name : Option (List ℕ) → ℕ → List ℕ
+entrant_name None place = decimal place
+entrant_name (Some file) place = shown file
+
+-- what a fault of it is told of: with its place, where no file is named
+abbrev pub entrant_word : Option (List ℕ) → ℕ → List ℕ
+entrant_word None place = codes "solution " ++ decimal place
+entrant_word (Some file) place = codes "solution"

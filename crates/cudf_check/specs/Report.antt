@@ -1,5 +1,5 @@
 -- What is answered of a problem and a solution: texts and outcomes. Own.
-use Rattle.std.specs.Prelude.{◌≡◌, ℕ, ◌-◌, Bool, List, [], ◌∷◌, ◌++◌, length, map, filter_map, take, slice_get, codes, decimal, Option, Some, None, option_and_then, if◌then◌else◌}
+use Rattle.std.specs.Prelude.{ℕ, ◌-◌, Bool, List, [], ◌∷◌, ◌++◌, length, map, filter_map, take, slice_get, codes, decimal, Option, Some, None, option_and_then, if◌then◌else◌}
 use Rattle.std.specs.List.{flat_map, last_or, enumerate_from}
 use Rattle.std.specs.Option.{option_map_or}
 use Rattle.std.specs.Str.{is_utf8}
@@ -57,15 +57,9 @@ alone text outcome = record { text = line text; outcome = outcome }
 
 -- `problem line 3: E9 value is not of its type`
 abbrev pub faulty : Style → Document → List ℕ → Fault → Report
-faulty style document whose f = record {
-  text = line (style.prefix document f.line ++ whose ++ style.location document f.line ++ codes ": " ++ fault_text f.kind ++ style.added_to_fault document f);
-  outcome = Faulty;
-}
-
--- the fault, if there is one, or else the report
-abbrev pub faulty_or : Style → Document → List ℕ → Option Fault → Report → Report
-faulty_or style document whose None report = report
-faulty_or style document whose (Some f) report = faulty style document whose f
+faulty style document whose f = alone
+    (style.prefix document f.line ++ whose ++ style.location document f.line ++ codes ": " ++ fault_text f.kind ++ style.added_to_fault document f)
+    Faulty
 
 -- the first fault of a problem: E1 where its bytes aren't UTF-8
 abbrev pub problem_fault : Mode → List ℕ → Option Fault
@@ -79,13 +73,11 @@ solution_fault mode names bytes = if is_utf8 bytes then (if is_fail bytes then N
 
 -- ` NAME VERSION`, where there is one
 abbrev pub subject_text : Option Id → List ℕ
-subject_text None = []
-subject_text (Some (name, version)) = codes " " ++ name ++ codes " " ++ decimal version
+subject_text subject = option_map_or (λ (name, version). codes " " ++ name ++ codes " " ++ decimal version) subject []
 
 -- the package that meets an entry, where there is one
 abbrev pub meeting_text : Option PlainPackage → List ℕ
-meeting_text None = []
-meeting_text (Some p) = codes ", met by " ++ p.name ++ codes " " ++ decimal p.version
+meeting_text met = option_map_or (λ p. codes ", met by " ++ p.name ++ codes " " ++ decimal p.version) met []
 
 -- what is wrong with an entry of `upgrade`
 abbrev pub upgrade_text : PlainVpkg → Option Aspect → List ℕ
@@ -116,24 +108,17 @@ instance_line style s i = line (met_text style i (option_and_then (package_at s.
 
 -- ---- pages of the listing
 
--- the violated instances whose keys come after this one; all of them where there is none
-abbrev pub listed : Option PlainKey → Proposal → List PlainInstance
-listed None s = listing s
-listed (Some key) s = rest key s
-
--- the first of them, where there is a limit
-abbrev pub limited : Option ℕ → List PlainInstance → List PlainInstance
-limited None instances = instances
-limited (Some limit) instances = take limit instances
-
 -- `more after p1.depends.1`, where the listing has a greater key than the last instance of the page
 abbrev pub more_text : Proposal → Option PlainInstance → List ℕ
-more_text s None = []
-more_text s (Some last) = if is_empty (rest last.key s) then [] else line (codes "more after " ++ key_text last.key)
+more_text s last = option_map_or (λ i. if is_empty (rest i.key s) then [] else line (codes "more after " ++ key_text i.key)) last []
 
--- a line for each violated instance of the page, and where the next page begins
+-- the violated instances whose keys come after this one, all of them where there is none; of these the first ones, where there
+-- is a limit: a line for each, and where the next page begins
 abbrev pub check_text : Style → Option PlainKey → Option ℕ → Proposal → List ℕ
-check_text style after limit s = let page = limited limit (listed after s) in flat_map (instance_line style s) page ++ more_text s (last_or None page)
+check_text style after limit s =
+    let left = option_map_or (λ key. rest key s) after (listing s) in
+    let page = option_map_or (λ n. take n left) limit left in
+    flat_map (instance_line style s) page ++ more_text s (last_or None page)
 
 -- ---- scores
 
@@ -184,16 +169,13 @@ proposal_of problem text = proposal problem (is_initial problem) (is_proposed pr
 -- a solution of a problem that has no fault: the solution's fault, or else FAIL, or else what is found of the proposed status
 abbrev pub solution_report : Style → Mode → (Proposal → List ℕ) → PlainProblem → List ℕ → Report
 solution_report style mode found problem solution =
-    faulty_or style of_solution (codes "solution") (solution_fault mode problem.extra_names solution)
+    option_map_or (faulty style of_solution (codes "solution")) (solution_fault mode problem.extra_names solution)
     (if is_fail solution then alone (codes "solution FAIL") Fail else judged_report found (proposal_of problem (plain_text solution)))
 
 -- a problem: its fault, or else what is answered of it
 abbrev pub problem_report : Style → Mode → List ℕ → (PlainProblem → Report) → Report
-problem_report style mode bytes answer = faulty_or style of_problem (codes "problem") (problem_fault mode bytes) (answer (plain_problem (plain_text bytes)))
-
--- a problem and a solution
-abbrev pub pair_report : Style → Mode → (Proposal → List ℕ) → List ℕ → List ℕ → Report
-pair_report style mode found problem solution = problem_report style mode problem (λ p. solution_report style mode found p solution)
+problem_report style mode bytes answer =
+    option_map_or (faulty style of_problem (codes "problem")) (problem_fault mode bytes) (answer (plain_problem (plain_text bytes)))
 
 -- ---- CNFs
 
@@ -236,8 +218,7 @@ cnf_answer problem = unless_too_large (is_too_large problem) (with_yes (dimacs p
 
 -- another package that meets an entry
 abbrev pub also_text : Option PlainPackage → List ℕ
-also_text None = []
-also_text (Some p) = codes ", " ++ p.name ++ codes " " ++ decimal p.version
+also_text met = option_map_or (λ p. codes ", " ++ p.name ++ codes " " ++ decimal p.version) met []
 
 -- the packages at these places, as `, met by mailer 4, proxy 1`
 abbrev pub met_texts : PlainProblem → List ℕ → List ℕ

@@ -12,11 +12,16 @@ use Rattle.cudf_referee.specs.Proposals.{Proposal}
 pub data Document : Type 0 where
   of_problem : Document
   of_solution : Document
+  -- the solution at a place, where several are ranked
+  of_entrant : ℕ → Document
 
 pub record Style : Type 0 where
   -- what is before a line about this line of the document, and what stands for ` line 3`
   pub prefix : Document → ℕ → List ℕ
   pub location : Document → ℕ → List ℕ
+  -- what stands for the solution at a place in a line of a ranking, and what a fault of it is told of
+  pub entrant : ℕ → List ℕ
+  pub faulty_entrant : ℕ → List ℕ
   -- what is added to the line of the document's first fault, of a violated instance, of an instance of a refutation, and of
   -- a proof's first fault: by the number of the CNF's clauses, the line and the kind
   pub added_to_fault : Document → Fault → List ℕ
@@ -29,6 +34,8 @@ abbrev pub plainly : Style
 plainly = record {
   prefix = λ document n. [];
   location = λ document n. codes " line " ++ decimal n;
+  entrant = decimal;
+  faulty_entrant = λ place. codes "solution " ++ decimal place;
   added_to_fault = λ document f. [];
   added_to_instance = λ s i. [];
   added_to_reason = λ problem i. [];

@@ -3,9 +3,9 @@ ghost use Rattle.std.specs.Prelude.{◌≡◌, ℕ, List, map, IfOk, IfErr};
 ghost use Rattle.std.specs.List.{list_any};
 ghost use Rattle.cudf_problem.specs.Universe.{PlainProblem};
 ghost use Rattle.cudf_problem.specs.declared.mode.Mode.{Mode};
-ghost use Rattle.cudf_check.specs.RankReport.{best_outcome, is_a_solution, is_no_solution, judgement_of};
+ghost use Rattle.cudf_check.specs.RankReport.{best_outcome, judgement_of};
 ghost use Rattle.cudf_check.specs.Report.{solution_fault};
-ghost use Rattle.cudf_check.specs.Working.Judged.{IsJudged, AreJudged, IsUnranked};
+ghost use Rattle.cudf_check.specs.Working.Judged.{IsJudged, AreJudged, IsUnranked, is_a_solution, is_no_solution};
 ghost use Rattle.cudf_check.specs.Working.Unjudged.{IsFaultOf, IsUnjudged};
 
 use crate::readings::{Unjudged, proposed_in};

@@ -1,13 +1,16 @@
 //! Checks proposed solutions of a CUDF 2.0 problem: one call, from readers of the documents to the written report of a job.
 #![tactic(auto)]
 
-ghost use Rattle.std.specs.Prelude.{◌≡◌, IfOk, option_map};
+ghost use Rattle.std.specs.Prelude.{◌≡◌, ℕ, List, IfOk, option_map};
 ghost use Rattle.std.specs.List.{All};
+ghost use Rattle.std.specs.Io.KnownBytes.{Appends};
 ghost use Rattle.cudf_device.specs.declared.outcome.Outcome.TheVariants.{Yes};
 ghost use Rattle.cudf_device.specs.Readers.{LeavesBehind, change, IsStopped, StopsInTime, changes};
+ghost use Rattle.cudf_device.specs.Writers.{StopsWriting};
 ghost use Rattle.cudf_check.specs.JobReport.{report};
-ghost use Rattle.cudf_check.specs.Meanings.{HasWritten, Means};
-ghost use Rattle.cudf_check.specs.Runs.{Runs};
+ghost use Rattle.cudf_check.specs.Meanings.{Means};
+ghost use Rattle.cudf_check.specs.Naming.{names_of};
+ghost use Rattle.cudf_check.specs.Runs.{HasRead, Runs};
 
 mod better_report;
 mod job;
@@ -69,17 +72,21 @@ pub fn run<R: Source, S: Source, W: Sink>(
     others: &mut [S],
     out: &mut W,
 ) -> Result<Outcome, RunError>
-    ensures runs { Runs (report job.now mode) (change R.state first.old first.new) (changes S.state others.old others.new) (change W.state out.old out.new) result }
+    ensures runs { let one = change R.state first.old first.new in let more = changes S.state others.old others.new in
+        Runs (report job.now mode (names_of one more)) one more (W.state out.old) (W.state out.new) result }
 
     // With `Yes`, `Cnf` has written clauses that exactly the solutions satisfy, and `CnfBetter` clauses that each better solution
     // does; `Refute` the lines of instances of which each proposed status violates one, so none is a solution; and after
     // `RefuteBetter` no solution is better.
-    ensures meaning { IfOk result (λ outcome. outcome ≡ Yes
-        → HasWritten (Means job.now) (change R.state first.old first.new) (changes S.state others.old others.new) (change W.state out.old out.new)) }
+    ensures meaning { IfOk result (λ outcome. outcome ≡ Yes → HasRead (change R.state first.old first.new) (changes S.state others.old others.new)
+        (λ bytes texts. (text : List ℕ) × Appends (W.state out.old).contents (W.state out.new).contents text × Means job.now bytes texts text)) }
 
     // No reader is called more often than an input may take, nor after a call that failed, reached the end or gave too much.
     ensures calls { StopsInTime (change R.state first.old first.new) }
     ensures other_calls { All StopsInTime (changes S.state others.old others.new) }
+
+    // The writer isn't called after a call that failed.
+    ensures stops { StopsWriting (change W.state out.old out.new) }
 
     // Where the reading of the first ended in an error, the others are as they were lent; where that of another did, those
     // after it.

@@ -1,14 +1,14 @@
 //! Decides which report a problem and its solutions have.
-ghost use Rattle.std.specs.Prelude.{map, option_map};
+ghost use Rattle.std.specs.Prelude.{ℕ, List, Option, map, slice_get};
 ghost use Rattle.cudf_problem.specs.declared.mode.Mode.{Mode};
 ghost use Rattle.cudf_problem.specs.Universe.{PlainProblem};
-ghost use Rattle.cudf_check.specs.JobStyles.{named_style};
-ghost use Rattle.cudf_check.specs.Naming.{own_file};
-ghost use Rattle.cudf_check.specs.RankReport.{solutions_report, placed_faults, first_faulty_or};
+ghost use Rattle.cudf_check.specs.JobStyles.{ranking_style};
+ghost use Rattle.cudf_check.specs.RankReport.{placed_faults, solutions_report};
 ghost use Rattle.cudf_check.specs.Report.{problem_report};
 ghost use Rattle.cudf_device.specs.Outcomes.{Report};
 ghost use Rattle.cudf_device.specs.Promises.PaperInside.{Prints};
-ghost use Rattle.cudf_check.specs.Working.Judged.{IsUnranked};
+ghost use Rattle.cudf_check.specs.Working.Judged.{IsUnranked, first_faulty_or};
+ghost use Rattle.cudf_check.specs.Working.Named.{names_given};
 ghost use Rattle.cudf_device.specs.Readers.{names_in};
 
 use crate::judging::{Unranked, best_outcome, judge_each};
@@ -30,8 +30,9 @@ fn print_unranked<S: Source, W: Sink>(
     sources: &[S],
     unranked: Unranked,
 ) -> Result<Outcome, AllocError>
-    ensures { (mode : Mode) → (problem : PlainProblem) → (solutions : _) → (report : Report) → IsUnranked mode problem solutions unranked
-        → Prints W.state paper.old paper.new (first_faulty_or (names_in S.state sources.now) (placed_faults mode problem solutions) report) result }
+    ensures { (first : Option (List ℕ)) → (mode : Mode) → (problem : PlainProblem) → (solutions : _) → (report : Report) → IsUnranked mode problem solutions unranked
+        → Prints W.state paper.old paper.new
+        (first_faulty_or (ranking_style (record { first = first; others = names_in S.state sources.now })) (slice_get (placed_faults mode problem solutions) 0) report) result }
 {
     let place = unranked.place;
     match unranked.error {
@@ -51,9 +52,9 @@ pub(crate) fn print_rank_report<S: Source, W: Sink>(
     problem: Given<'_, '_>,
     solutions: Others<'_, S>,
 ) -> Result<Outcome, AllocError>
-    ensures { let names = names_in S.state solutions.entry.sources.now in
-        Prints W.state paper.old paper.new (problem_report (named_style (own_file (option_map (λ n. n.now) problem.entry.name))) setting.mode problem.entry.bytes.now
-        (λ p. solutions_report aims.now setting.mode names p (map (λ b. b.items) solutions.entry.texts.now))) result }
+    ensures { let style = ranking_style (names_given S.state problem.entry solutions.entry.sources.now) in
+        Prints W.state paper.old paper.new (problem_report style setting.mode problem.entry.bytes.now
+        (λ p. solutions_report style aims.now setting.mode p (map (λ b. b.items) solutions.entry.texts.now))) result }
 {
     let mut room = Room::new(setting.alloc);
     let mut names = NameRoom::new(setting.alloc);
@@ -74,8 +75,8 @@ fn print_judged<S: Source, W: Sink>(
     problem: &Problem<'_>,
     solutions: Others<'_, S>,
 ) -> Result<Outcome, AllocError>
-    ensures { Prints W.state paper.old paper.new
-        (solutions_report aims.now setting.mode (names_in S.state solutions.entry.sources.now) problem.now (map (λ b. b.items) solutions.entry.texts.now)) result }
+    ensures { (first : Option (List ℕ)) → let style = ranking_style (record { first = first; others = names_in S.state solutions.entry.sources.now }) in
+        Prints W.state paper.old paper.new (solutions_report style aims.now setting.mode problem.now (map (λ b. b.items) solutions.entry.texts.now)) result }
 {
     let Others { texts, sources } = solutions;
     match judge_each(setting, problem, texts) {

@@ -8,15 +8,15 @@ ghost use Rattle.cudf_referee.specs.Proposals.{Proposal};
 ghost use Rattle.cudf_device.specs.declared.outcome.Outcome.TheVariants.{Fail, Yes};
 ghost use Rattle.cudf_check.specs.JobStyles.{detail_if, document_style, explains, inputs_style, pair_style, refutation_style};
 ghost use Rattle.cudf_check.specs.Naming.{one_file, own_file};
-ghost use Rattle.cudf_check.specs.Report.{alone, faulty_or, cnf_answer, problem_fault, problem_report, refute_answer, solution_fault, solution_report, pair_report};
+ghost use Rattle.cudf_check.specs.Report.{alone, cnf_answer, problem_fault, problem_report, refute_answer, solution_fault, solution_report};
 ghost use Rattle.cudf_check.specs.JobReport.{inputs_report, report};
 ghost use Rattle.cudf_check.specs.Styles.{Style, of_problem, of_solution};
 ghost use Rattle.cudf_device.specs.Outcomes.{Report};
 ghost use Rattle.cudf_device.specs.Promises.Answering.{Answers};
 ghost use Rattle.cudf_device.specs.Promises.PaperInside.{Prints};
-ghost use Rattle.cudf_check.specs.Working.Found.{found_text};
+ghost use Rattle.cudf_check.specs.Working.Found.{found_text, pair_report};
 ghost use Rattle.cudf_check.specs.Working.Named.{given_names, names_given, origin_view, origins_view, style_for};
-ghost use Rattle.cudf_check.specs.Working.Unjudged.{IsFaultOf, IsUnjudged};
+ghost use Rattle.cudf_check.specs.Working.Unjudged.{IsFaultOf, IsUnjudged, faulty_or};
 
 use crate::better_report::{Question, print_better_report};
 use crate::job::explains;

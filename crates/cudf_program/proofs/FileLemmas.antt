@@ -7,7 +7,8 @@ use Rattle.std.specs.List.{AllZip}
 use Rattle.std.specs.Option.{option_to_list}
 use Rattle.std.specs.Result.{IsErrAnd}
 use Rattle.cudf_device.specs.Readers.{Change, IsTooLong, OfOne, ReadsAll, change, changes, most_bytes}
-use Rattle.cudf_check.specs.Runs.{HoldsOfReport as Whole, Runs}
+use Rattle.cudf_check.specs.Naming.{names_of}
+use Rattle.cudf_check.specs.Runs.{HasRead, Runs}
 use Rattle.cudf_device.specs.Writers.{AppendsPrefix}
 use Rattle.cudf_check.specs.JobReport.{report}
 use Rattle.cudf_device.specs.Outcomes.{Report}
@@ -83,7 +84,7 @@ same_names state (old ∷ olds) (new ∷ news) same = ap (λ names. (state old).
 
 -- devices, of which a run has read these inputs
 module _ {D : Type 0} (state : D → SourceState) (job : Job) (mode : Mode) (first : Change SourceState) (olds news : List D) (same : length news ≡ length olds) where
-  of_run : (P : Report → Type 0) → (IsTooLong first ⊎ OfOne IsTooLong (changes state olds news) → ⊥) → Whole (report job mode) first (changes state olds news) P
+  of_run : (P : Report → Type 0) → (IsTooLong first ⊎ OfOne IsTooLong (changes state olds news) → ⊥) → HasRead first (changes state olds news) (λ text texts. P (report job mode (names_of first (changes state olds news)) text texts))
       → HoldsOfKnown job mode (record { first = first.before.name; others = map (λ d. (state d).name) olds }) first.before.remaining (map (λ d. (state d).remaining) olds) P
   of_run P none h = record {
     first = h.text;
@@ -95,7 +96,7 @@ module _ {D : Type 0} (state : D → SourceState) (job : Job) (mode : Mode) (fir
   }
 
   -- what was done to the devices is what was done to inputs of which they tell the bytes
-  pub did : (out : Change SinkState) (result : Result Outcome RunError) → Runs (report job mode) first (changes state olds news) out result
+  pub did : (out : Change SinkState) (result : Result Outcome RunError) → Runs (report job mode (names_of first (changes state olds news))) first (changes state olds news) out.before out.after result
       → Did job mode (record { first = first.before.name; others = map (λ d. (state d).name) olds }) first.before.remaining (map (λ d. (state d).remaining) olds) out result
   did out result runs = record {
     done = done_then result runs.too_long (λ outcome none h. of_run (λ r. Appends out.before.contents out.after.contents r.text × (outcome ≡ r.outcome)) none h) runs.done;

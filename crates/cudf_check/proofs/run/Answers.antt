@@ -3,6 +3,7 @@ use Rattle.cudf_device.specs.Promises.Answering.{Answers}
 use Rattle.cudf_device.specs.Readers.{ReadsAll, change, changes}
 use Rattle.cudf_device.proofs.InputsLemmas.{behind_still, each_still, names-before, none_still, too_long_fails, unfinished_fails}
 use Rattle.cudf_check.specs.JobReport.{report}
+use Rattle.cudf_check.specs.Naming.{names_of}
 use Rattle.cudf_check.specs.Working.Named.{names_given}
 use Rattle.cudf_check.proofs.MeaningLemmas.{run_means}
 use Rattle.cudf_check.proofs.RunLemmas.{all_answered, first_stopped, was_read}
@@ -35,7 +36,7 @@ returns-clause-runs g c =
     let reads = c.in_ok-texts.ensures.reads in
     let name = c.given.ensures.name ∙ read.named in
     let names = c.in_ok-texts.ensures.named ∙ sym (names-before state c.args.others.now c.read_each.new.sources ReadsAll texts reads.all c.read_each.auto.sources) in
-    all_answered (report job mode) first text others texts
+    all_answered (report job mode (names_of first others)) first text others texts
     (was_read first text c.in_ok-text.text read.all read.too_long read.read read.calls)
     (record { all = reads.all; finished = λ h. absurd (cc (reads.read.1 h)); short = λ h. absurd (cc (reads.too_long.1 h)) })
     before after c.answer_job.result

@@ -2,7 +2,7 @@
 use Rattle.std.specs.Prelude.{ℕ, ◌-◌, ◌==◌, Bool, List, [], ◌∷◌, slice_get, Option, None, Some, option_map, option_and_then, if◌then◌else◌}
 use Rattle.cudf_document.specs.Details.{PlainDetail}
 use Rattle.cudf_check.specs.Explanations.{listed_text, instance_added, detail_added}
-use Rattle.cudf_check.specs.JobStyles.{document_style, named_style, pair_style, refutation_style}
+use Rattle.cudf_check.specs.JobStyles.{document_style, named_style, pair_style, ranking_style, refutation_style}
 use Rattle.cudf_check.specs.Naming.{Names, PlainOrigin, PlainOrigins}
 use Rattle.cudf_check.specs.Styles.{Style}
 use Rattle.cudf_device.specs.Device.{SourceState}
@@ -35,6 +35,10 @@ names_given state first others = record { first = option_map (λ n. n.now) first
 -- of a document whose faults are reported
 abbrev pub style_for : Document → Style
 style_for d = document_style d.explain (option_map origin_view d.origin) d.bytes.now
+
+-- of solutions that are ranked, whatever the name of the problem is
+abbrev pub entrants_style : List (Option (List ℕ)) → Style
+entrants_style names = ranking_style (record { first = None; others = names })
 
 -- with this detail of a fault
 abbrev pub detailed_style : Option PlainOrigin → Option PlainDetail → Style

@@ -1,6 +1,7 @@
 -- Where the walk over the instances is after a page, and what it has spent.
 use Rattle.std.specs.Prelude.{◌≡◌, ◌≤◌, ◌+◌, ◌⊎◌, ℕ, Bool, true, false, List, [], ◌∷◌, ◌++◌, codes, length, take, drop, map, IsTrue, option_map, Option, Some, None, if◌then◌else◌}
 use Rattle.std.specs.List.{last_or}
+use Rattle.std.specs.Option.{option_map_or}
 use Rattle.cudf_problem.specs.Documents.{is_empty}
 use Rattle.cudf_job.specs.Keys.{PlainKey, key_text, ascend}
 use Rattle.cudf_referee.specs.Promises.Pages.{cost_along}
@@ -12,6 +13,10 @@ use Rattle.cudf_job.specs.KeyViews.{key_view}
 use Rattle.cudf_referee.specs.Proposals.{Proposal}
 use Rattle.cudf_referee.specs.Violations.{listing, rest}
 use Rattle.cudf_check.specs.Report.{line}
+
+-- the violated instances whose keys come after this one; all of them where there is none
+abbrev pub listed : Option PlainKey → Proposal → List PlainInstance
+listed after s = option_map_or (λ key. rest key s) after (listing s)
 
 -- the keys of the listing ascend
 abbrev pub Ascends : Proposal → Type 0

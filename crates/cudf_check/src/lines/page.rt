@@ -7,9 +7,9 @@ ghost use Rattle.cudf_job.specs.KeyViews.{key_view};
 ghost use Rattle.cudf_referee.specs.Promises.Pages.{behind, at_instance, calls, cost_along, page_price};
 ghost use Rattle.cudf_referee.specs.Promises.Stops.{cost_between};
 ghost use Rattle.cudf_referee.specs.Promises.Walks.{left};
-ghost use Rattle.cudf_check.specs.Report.{line, instance_line, listed, check_text};
+ghost use Rattle.cudf_check.specs.Report.{line, instance_line, check_text};
 ghost use Rattle.cudf_check.specs.Working.Named.{instance_style};
-ghost use Rattle.cudf_check.specs.Working.Pages.{Ascends, IsEnded, IsSpent, more_behind, page_size};
+ghost use Rattle.cudf_check.specs.Working.Pages.{Ascends, IsEnded, IsSpent, listed, more_behind, page_size};
 ghost use Rattle.cudf_device.specs.Promises.PaperInside.{Says, has_failed};
 
 use crate::lines::instance::print_key;

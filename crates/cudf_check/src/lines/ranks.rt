@@ -1,11 +1,12 @@
 //! The report of a ranking: a line for each solution, the best first; or the fault of one.
 ghost use Rattle.std.specs.Prelude.{◌++◌, None, codes, decimal, option_map};
-ghost use Rattle.std.specs.List.{flat_map};
+ghost use Rattle.std.specs.List.{enumerate_from, flat_map};
 ghost use Rattle.cudf_check.specs.JobStyles.{named_style};
-ghost use Rattle.cudf_check.specs.Naming.{own_file};
-ghost use Rattle.cudf_check.specs.RankReport.{aim_count, entrant_name, entrant_word, judgement_text, rank_line, ranking_text};
+ghost use Rattle.cudf_check.specs.Naming.{entrant_name, entrant_word, own_file};
+ghost use Rattle.cudf_check.specs.RankReport.{aim_count, judgement_text, rank_line};
 ghost use Rattle.cudf_check.specs.Report.{faulty};
 ghost use Rattle.cudf_check.specs.Styles.{of_solution};
+ghost use Rattle.cudf_check.specs.Working.Named.{entrants_style};
 ghost use Rattle.cudf_device.specs.Readers.{names_in};
 ghost use Rattle.cudf_device.specs.Promises.PaperInside.{Says};
 
@@ -80,7 +81,7 @@ fn print_entrant<S: Source, W: Sink>(
     rank: u64,
     entrant: &Entrant,
 )
-    ensures { Says W.state paper.old paper.new (rank_line aims.now (names_in S.state sources.now) (rank, entrant.now)) }
+    ensures { Says W.state paper.old paper.new (rank_line (entrants_style (names_in S.state sources.now)) aims.now (rank, entrant.now)) }
 {
     print_rank(paper, rank, name_at(sources, entrant.place), entrant.place);
     print_judgement(paper, aims, entrant.judgement);
@@ -94,7 +95,7 @@ pub(crate) fn print_ranking<S: Source, W: Sink>(
     sources: &[S],
     ranked: &[Entrant],
 )
-    ensures { Says W.state paper.old paper.new (ranking_text aims.now (names_in S.state sources.now) ranked.now) }
+    ensures { Says W.state paper.old paper.new (flat_map (rank_line (entrants_style (names_in S.state sources.now)) aims.now) (enumerate_from 1 ranked.now)) }
 {
     for (index, entrant) in ranked.iter().enumerate() {
         print_entrant(paper, aims, sources, index as u64 + 1, entrant);

@@ -2,9 +2,10 @@ use Rattle.std.proofs.Common.{codes, sym}
 use Rattle.cudf_device.proofs.PaperLemmas.{Prints-as}
 use Rattle.cudf_check.specs.BetterReport.{judged_as}
 use Rattle.cudf_check.specs.RankReport.{judgement}
-use Rattle.cudf_check.specs.Report.{faulty_or, solution_fault}
+use Rattle.cudf_check.specs.Report.{solution_fault}
 use Rattle.cudf_check.specs.Styles.{of_solution, plainly}
 use Rattle.cudf_check.specs.Working.Bettered.{question_answer, question_view}
+use Rattle.cudf_check.specs.Working.Unjudged.{faulty_or}
 use Rattle.cudf_check.proofs.better_report.print_asked.Goals as goal
 
 pub returns-in-Ok : goal.returns-in-Ok

@@ -3,9 +3,9 @@ use Rattle.cudf_text.specs.Stanzas.{plain_text}
 use Rattle.cudf_problem.specs.Universe.{plain_problem}
 use Rattle.cudf_device.proofs.PaperLemmas.{Prints-as}
 use Rattle.cudf_check.specs.BetterReport.{better_report}
-use Rattle.cudf_check.specs.Report.{faulty_or}
 use Rattle.cudf_check.specs.Styles.{of_problem, plainly}
 use Rattle.cudf_check.specs.Working.Bettered.{question_answer, question_view}
+use Rattle.cudf_check.specs.Working.Unjudged.{faulty_or}
 use Rattle.cudf_check.proofs.better_report.print_better_report.Goals as goal
 
 pub returns-in-Ok : goal.returns-in-Ok

@@ -1,7 +1,7 @@
 use Rattle.std.proofs.Common.{ap, sym, ◌∙◌, option_map}
 use Rattle.cudf_check.specs.JobStyles.{inputs_style, pair_style}
 use Rattle.cudf_check.specs.JobReport.{inputs_report}
-use Rattle.cudf_check.specs.Report.{pair_report}
+use Rattle.cudf_check.specs.Working.Found.{pair_report}
 use Rattle.cudf_check.specs.Working.Named.{given_names}
 use Rattle.cudf_check.proofs.report.parted.Goals as goal
 

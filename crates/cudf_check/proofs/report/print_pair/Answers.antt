@@ -3,10 +3,11 @@ use Rattle.cudf_text.specs.Stanzas.{plain_text}
 use Rattle.cudf_problem.specs.Universe.{plain_problem}
 use Rattle.cudf_device.proofs.PaperLemmas.{Prints-as}
 use Rattle.cudf_check.specs.JobStyles.{document_style, explains, pair_style}
-use Rattle.cudf_check.specs.Report.{faulty_or, problem_fault, solution_report}
+use Rattle.cudf_check.specs.Report.{problem_fault, solution_report}
 use Rattle.cudf_check.specs.Styles.{of_problem}
 use Rattle.cudf_check.specs.Working.Found.{found_text}
 use Rattle.cudf_check.specs.Working.Named.{origins_view}
+use Rattle.cudf_check.specs.Working.Unjudged.{faulty_or}
 use Rattle.cudf_check.proofs.report.print_pair.Goals as goal
 
 pub returns-in-Ok : goal.returns-in-Ok

@@ -8,10 +8,11 @@ use Rattle.cudf_referee.specs.Proposals.{proposal}
 use Rattle.cudf_device.specs.declared.outcome.Outcome.TheVariants.{Fail}
 use Rattle.cudf_device.proofs.PaperLemmas.{Prints-as}
 use Rattle.cudf_check.specs.JobStyles.{document_style, explains, pair_style}
-use Rattle.cudf_check.specs.Report.{alone, faulty_or, judged_report, proposal_of, solution_fault}
+use Rattle.cudf_check.specs.Report.{alone, judged_report, proposal_of, solution_fault}
 use Rattle.cudf_check.specs.Styles.{of_solution}
 use Rattle.cudf_check.specs.Working.Found.{found_text}
 use Rattle.cudf_check.specs.Working.Named.{origins_view}
+use Rattle.cudf_check.specs.Working.Unjudged.{faulty_or}
 use Rattle.cudf_check.proofs.ReadingLemmas.{put_forward, solution_judged}
 use Rattle.cudf_check.proofs.report.print_proposed.Goals as goal
 

@@ -3,8 +3,9 @@ use Rattle.cudf_text.specs.Stanzas.{plain_text}
 use Rattle.cudf_problem.specs.Universe.{plain_problem}
 use Rattle.cudf_device.proofs.PaperLemmas.{Prints-as}
 use Rattle.cudf_check.specs.JobStyles.{refutation_style}
-use Rattle.cudf_check.specs.Report.{faulty_or, refute_answer}
+use Rattle.cudf_check.specs.Report.{refute_answer}
 use Rattle.cudf_check.specs.Styles.{of_problem}
+use Rattle.cudf_check.specs.Working.Unjudged.{faulty_or}
 use Rattle.cudf_check.proofs.ReadingLemmas.{refuted_same}
 use Rattle.cudf_check.proofs.report.print_refuted.Goals as goal
 

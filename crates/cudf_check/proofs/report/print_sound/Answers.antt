@@ -2,8 +2,9 @@ use Rattle.std.proofs.Common.{ap, codes}
 use Rattle.cudf_device.specs.declared.outcome.Outcome.TheVariants.{Yes}
 use Rattle.cudf_device.proofs.PaperLemmas.{Prints-as}
 use Rattle.cudf_check.specs.JobStyles.{document_style}
-use Rattle.cudf_check.specs.Report.{alone, faulty_or, problem_fault}
+use Rattle.cudf_check.specs.Report.{alone, problem_fault}
 use Rattle.cudf_check.specs.Styles.{of_problem}
+use Rattle.cudf_check.specs.Working.Unjudged.{faulty_or}
 use Rattle.cudf_check.proofs.report.print_sound.Goals as goal
 
 pub returns-in-Err : goal.returns-in-Err

@@ -2,10 +2,10 @@ use Rattle.std.proofs.Common.{if◌then◌else◌, refl, sym, subst, codes}
 use Rattle.cudf_text.specs.Joined.{is_fail}
 use Rattle.cudf_device.specs.declared.outcome.Outcome.TheVariants.{Fail}
 use Rattle.cudf_device.proofs.PaperLemmas.{Prints-as}
-use Rattle.cudf_check.specs.Report.{alone, faulty_or, solution_fault}
+use Rattle.cudf_check.specs.Report.{alone, solution_fault}
 use Rattle.cudf_check.specs.Styles.{of_solution}
 use Rattle.cudf_check.specs.Working.Named.{style_for}
-use Rattle.cudf_check.specs.Working.Unjudged.{IsUnjudged}
+use Rattle.cudf_check.specs.Working.Unjudged.{IsUnjudged, faulty_or}
 use Rattle.cudf_check.proofs.report.print_unjudged.Goals as goal
 
 pub returns-in-SaysFail : goal.returns-in-SaysFail

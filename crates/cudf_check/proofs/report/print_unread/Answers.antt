@@ -1,9 +1,9 @@
 use Rattle.std.proofs.Common.{ap, refl, sym, ◌∙◌, subst, option_map}
 use Rattle.cudf_device.proofs.PaperLemmas.{Prints-as}
-use Rattle.cudf_check.specs.Report.{faulty, faulty_or}
+use Rattle.cudf_check.specs.Report.{faulty}
 use Rattle.cudf_check.specs.Styles.{of_problem}
 use Rattle.cudf_check.specs.Working.Named.{detailed_style, origin_view, style_for}
-use Rattle.cudf_check.specs.Working.Unjudged.{IsFaultOf}
+use Rattle.cudf_check.specs.Working.Unjudged.{IsFaultOf, faulty_or}
 use Rattle.cudf_check.proofs.report.print_unread.Goals as goal
 
 pub returns-in-Ok : goal.returns-in-Ok

@@ -3,8 +3,8 @@ use Rattle.std.specs.List.{flat_map, last_or}
 use Rattle.cudf_job.specs.KeyViews.{key_view}
 use Rattle.cudf_referee.specs.Promises.Walks.{left}
 use Rattle.cudf_check.specs.Working.Named.{instance_style}
-use Rattle.cudf_check.specs.Report.{instance_line, listed, more_text, check_text}
-use Rattle.cudf_check.specs.Working.Pages.{IsPageEnd, IsEnded, more_behind}
+use Rattle.cudf_check.specs.Report.{instance_line, more_text, check_text}
+use Rattle.cudf_check.specs.Working.Pages.{IsPageEnd, IsEnded, listed, more_behind}
 use Rattle.cudf_check.proofs.PageLemmas.{left_listed, more-none, more-line, more-key, more-no-key}
 use Rattle.cudf_device.specs.Promises.PaperInside.{has_failed}
 use Rattle.cudf_device.proofs.PaperLemmas.{Says-as, ◌▸◌, Says-end}

@@ -4,8 +4,7 @@ use Rattle.cudf_device.specs.Promises.PaperInside.{Says}
 use Rattle.cudf_device.proofs.PaperLemmas.{Says-as, ◌▸◌}
 use Rattle.cudf_check.specs.Explanations.{detail_added}
 use Rattle.cudf_check.specs.JobStyles.{named_style}
-use Rattle.cudf_check.specs.Naming.{named_before, numbered}
-use Rattle.cudf_check.specs.RankReport.{entrant_word}
+use Rattle.cudf_check.specs.Naming.{entrant_word, named_before, numbered}
 use Rattle.cudf_check.specs.Report.{faulty}
 use Rattle.cudf_check.specs.Styles.{of_solution}
 use Rattle.cudf_check.specs.Working.Named.{origin_view}
