@@ -14,7 +14,8 @@ the program may not use. Only the two functions of `Steps` that set a count have
 a count could be set back. The standard library and the crates from outside are believed as they are.
 
 Of these files a command needs the definitions that the contracts name, and those that these name: of equations by the
-job, those of its own. The exact texts of `cnf` and `refute` aren't counted: the headline says what they mean.
+job, those of its own. The exact texts of `cnf` and `refute` aren't counted, as the headline says what they mean; nor is
+which calls are made, a promise of its own.
 
     statement.py           prints the files in reading order, and for each command the lines of definitions that it needs,
                            with and without what `--explain` and `-H` change; compares these with docs/PROOFS.md
@@ -41,8 +42,10 @@ OUTSIDE = {"std", "core"}.union(*(below.split() for _, below in LIBRARIES)).diff
 # the function that carries the headline, and the laws with the commands that need them
 ENTRY = "run"
 LAWS = {"ascending": {"check", "all"}, "empty": {"check", "refute", "all"}}
-# what isn't followed: exact texts, and without `--explain` and `-H` the style that these ask for, by a law of cudf_check
+# what isn't followed: exact texts, which calls are made, and without `--explain` and `-H` the style that these ask for, by
+# a law of cudf_check
 TEXTS, STYLE, PLAIN = {"cnf_answer", "cnf_better", "refute_answer", "refute_better"}, "style_of", "plain"
+CALLS = {"StopsInTime", "StopsWriting", "IsStopped", "LeavesBehind"}
 # and what a text means, of commands of which the headline says the text
 MEANINGS, MEANT = {"Means"}, {"cnf", "refute", "all"}
 PROOFS_BY_HAND = {f"crates/cudf_index/proofs/steps/mark/Mark/{name}/Proof.antt" for name in ("grow", "new")}
@@ -381,7 +384,7 @@ def used_by(path, lines):
 def needed(command, is_plain=False):
     """What a reader of the headline needs for a command, or for one without options: each definition's lines, by files."""
     jobs, left, found = COMMANDS[command], roots(command, is_plain), {}
-    left_out = TEXTS | ({STYLE} if is_plain else set()) | (MEANINGS if command not in MEANT else set())
+    left_out = TEXTS | CALLS | ({STYLE} if is_plain else set()) | (MEANINGS if command not in MEANT else set())
     while left:
         path, name = left.pop()
         lines, made = definitions_in(path)
