@@ -55,7 +55,7 @@ TESTS = f"{ROOT}/crates/cudf_tests/src/*.rt"
 UNDONE = "a growth was refused; what was half added is taken out"
 MANY_STEPS = "the clauses and steps are 4294967295; these take some 100 GB"
 MADE = [
-    ("cudf_better/src/definitions.rt", "a clause of a variable that isn't there: never"),
+    ("cudf_better/src/constraint.rt", "a clause of a variable that isn't there: never"),
     ("cudf_better/src/items.rt", UNDONE),
     ("cudf_check/src/judging.rt", "a growth was refused; the error is of another type"),
     ("cudf_cnf/src/clauses.rt", UNDONE),

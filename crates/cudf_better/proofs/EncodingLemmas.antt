@@ -7,9 +7,9 @@ use Rattle.std.specs.List.{list_any}
 use Rattle.std.proofs.lemmas.List.Folds.{list_any-append}
 use Rattle.std.proofs.lemmas.List.{length-append, length-map, map-append, take_more}
 use Rattle.cudf_problem.specs.Universe.{PlainProblem}
-use Rattle.cudf_job.specs.declared.aims.Aim.{Aim}
-use Rattle.cudf_job.specs.declared.aims.Sign.{Sign}
-use Rattle.cudf_job.specs.declared.aims.Sign.TheVariants.{Least, Most}
+use Rattle.cudf_job.specs.declared.criteria.Aim.{Aim}
+use Rattle.cudf_job.specs.declared.criteria.Sign.{Sign}
+use Rattle.cudf_job.specs.declared.criteria.Sign.TheVariants.{Least, Most}
 use Rattle.cudf_job.specs.Aims.{count_row}
 use Rattle.cudf_job.specs.declared.criteria.Criteria.{Criteria}
 use Rattle.cudf_lrat.specs.Literals.{PlainCnf}

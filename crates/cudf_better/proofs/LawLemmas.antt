@@ -16,9 +16,9 @@ use Rattle.cudf_problem.specs.Universe.{PlainPackage, PlainProblem, package_id}
 use Rattle.cudf_index.specs.Satisfaction.{Placed, meets_clause_alone, members}
 use Rattle.cudf_job.specs.Aims.{count_row}
 use Rattle.cudf_job.specs.Comparing.{aim_cmp, compare, differ_in, sign_cmp}
-use Rattle.cudf_job.specs.declared.aims.Aim.{Aim}
-use Rattle.cudf_job.specs.declared.aims.Sign.{Sign}
-use Rattle.cudf_job.specs.declared.aims.Sign.TheVariants.{Least, Most}
+use Rattle.cudf_job.specs.declared.criteria.Aim.{Aim}
+use Rattle.cudf_job.specs.declared.criteria.Sign.{Sign}
+use Rattle.cudf_job.specs.declared.criteria.Sign.TheVariants.{Least, Most}
 use Rattle.cudf_job.specs.declared.criteria.Count.{Count}
 use Rattle.cudf_job.specs.declared.criteria.Count.TheVariants.{Removed, New, Changed, NotUpToDate, UnsatRecommends, Touched}
 use Rattle.cudf_job.specs.declared.criteria.Criteria.{Criteria}

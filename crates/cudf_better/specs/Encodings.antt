@@ -1,7 +1,7 @@
 -- The clauses that a status compares better than some counts, in memory: own.
 use Rattle.std.specs.Prelude.{◌≡◌, ◌+◌, ◌-◌, ℕ, Bool, true, false, ◌||◌, nat_lt, List, length, Option, Some, None}
 use Rattle.cudf_problem.specs.Universe.{PlainProblem}
-use Rattle.cudf_job.specs.declared.aims.Aim.{Aim}
+use Rattle.cudf_job.specs.declared.criteria.Aim.{Aim}
 use Rattle.cudf_job.specs.declared.criteria.Criteria.{Criteria}
 use Rattle.cudf_lrat.specs.Literals.{PlainCnf}
 use Rattle.std.specs.List.{list_any}

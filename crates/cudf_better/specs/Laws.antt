@@ -6,7 +6,7 @@ use Rattle.cudf_problem.specs.Promises.Packages.{are_distinct}
 use Rattle.cudf_problem.specs.Statuses.{PlainUnknown}
 use Rattle.cudf_problem.specs.Universe.{PlainProblem, package_id}
 use Rattle.cudf_job.specs.Comparing.{compare}
-use Rattle.cudf_job.specs.declared.aims.Aim.{Aim}
+use Rattle.cudf_job.specs.declared.criteria.Aim.{Aim}
 use Rattle.cudf_job.specs.declared.criteria.Criteria.{Criteria}
 use Rattle.cudf_lrat.specs.declared.cnf.Literal.{Literal}
 use Rattle.cudf_lrat.specs.Literals.{Assignment, IsCore, SatisfiesAll, is_true_in}

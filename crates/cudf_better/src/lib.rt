@@ -3,15 +3,9 @@
 #![tactic(auto)]
 
 mod constraint;
-mod definitions;
 mod encoding;
-mod formulas;
 mod items;
 pub mod laws;
-mod names;
 mod network;
-mod packages;
-mod sorted;
-mod source;
 
 pub use encoding::encoded;

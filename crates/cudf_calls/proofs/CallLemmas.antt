@@ -17,8 +17,8 @@ use Rattle.cudf_calls.specs.Working.Fronts.{IsWritten}
 use Rattle.cudf_calls.specs.declared.Input.{Input}
 use Rattle.cudf_calls.specs.declared.Text.{Text}
 use Rattle.cudf_calls.specs.declared.front.Front.{Front}
-use Rattle.cudf_calls.specs.declared.stop.Stop.{Stop}
-use Rattle.cudf_calls.specs.declared.stop.Stop.TheVariants as stops
+use Rattle.cudf_calls.specs.declared.carried.Stop.{Stop}
+use Rattle.cudf_calls.specs.declared.carried.Stop.TheVariants as stops
 use Rattle.cudf_calls.proofs.RoomLemmas.{over-is}
 
 -- words that ask for neither help nor the version

@@ -17,8 +17,8 @@ use Rattle.cudf_calls.specs.Working.Fronts.{front_state, IsUnwritten, IsWritten}
 use Rattle.cudf_calls.specs.Working.Rooms.{over}
 use Rattle.cudf_calls.specs.declared.Input.{Input}
 use Rattle.cudf_calls.specs.declared.front.Front.{Front}
-use Rattle.cudf_calls.specs.declared.stop.Stop.{Stop}
-use Rattle.cudf_calls.specs.declared.stop.Stop.TheVariants.{Memory}
+use Rattle.cudf_calls.specs.declared.carried.Stop.{Stop}
+use Rattle.cudf_calls.specs.declared.carried.Stop.TheVariants.{Memory}
 use Rattle.cudf_calls.proofs.DocumentLemmas.{OfInput, all_whole, are_named}
 use Rattle.cudf_calls.proofs.RoomLemmas.{over-none, taken, untaken}
 

@@ -1,4 +1,4 @@
-//! What the words ask for, on documents in memory.
+//! What the words ask for, on documents in memory; and what a caller is told where there is no report.
 ghost use Rattle.std.specs.Prelude.{◌≡◌, [], ◌∷◌, IfOk, MatchResult, map, option_map, string_bytes};
 ghost use Rattle.std.specs.List.{All, AllZip};
 ghost use Rattle.std.specs.Str.{IsUtf8};
@@ -6,19 +6,16 @@ ghost use Rattle.cudf_check.specs.JobReport.{report};
 ghost use Rattle.cudf_command_line.specs.Orders.{IsAskedFor, IsUnasked};
 ghost use Rattle.cudf_command_line.specs.declared.command.Order.{Order};
 ghost use Rattle.cudf_command_line.specs.declared.usage.Usage.{Usage};
-ghost use Rattle.cudf_calls.specs.Calls.{Does, Follows, Reports, label, labels, left, names_of, texts_of};
+ghost use Rattle.cudf_calls.specs.Calls.{Does, Follows, Reports, label, labels, left, names_of, texts_of, BreaksOff, Says, Shows};
 ghost use Rattle.cudf_calls.specs.Working.Documents.{IsNew};
 ghost use Rattle.cudf_calls.specs.Working.Fronts.{IsUnwritten, IsWritten};
 
 use crate::Input;
-use crate::document::Document;
-use crate::front::{Front, Seen};
-use crate::lengths::are_short;
-use crate::stop::Stop;
-use crate::told::{explain, refuse, show};
-use cudf_check::{Outcome, run};
-use cudf_command_line::Order;
+use crate::document::{Document, are_short};
+use crate::front::{Front, Seen, copy_front};
+use cudf_check::{Outcome, RunError, run};
 use cudf_command_line::command::command;
+use cudf_command_line::{Order, Usage};
 use std::alloc::{AllocError, Global};
 
 /// Does what these words of a command line ask for.
@@ -151,5 +148,73 @@ fn label(names_files: bool, name: &[u8]) -> Option<&str>
         }
     } else {
         None
+    }
+}
+
+/// Shows a text: its front is in the caller's buffer, as far as there is room, and its length is told. Answers the status.
+pub(crate) fn show(status: u8, text: &[u8], room: &mut [u8], length: &mut usize) -> u8
+    ensures status { result ≡ status }
+    ensures shows { Shows text.now (left room.old room.new length.new result) }
+{
+    *length = text.len();
+    copy_front(text, room);
+    status
+}
+
+/// Tells a caller that there is no text, and answers the status.
+pub(crate) fn refuse(status: u8, length: &mut usize) -> u8
+    ensures length { length.new ≡ 0 }
+    ensures status { result ≡ status }
+{
+    *length = 0;
+    status
+}
+
+/// Tells what is told of words that ask for no order.
+pub(crate) fn explain(alloc: Global, usage: &Usage<'_>, room: &mut [u8], length: &mut usize) -> u8
+    ensures { Says usage.now (left room.old room.new length.new result) }
+{
+    if let Usage::Told(text) = usage {
+        return show(0, text.as_bytes(), room, length);
+    }
+    if usage.status() != 4 {
+        return refuse(6, length);
+    }
+    let mut message = Vec::new(alloc);
+    match usage.tell(&mut message) {
+        Ok(()) => show(4, &message, room, length),
+        Err(_) => refuse(6, length),
+    }
+}
+
+/// Why a call breaks off.
+#[derive(Clone, Copy)]
+pub(crate) enum Stop {
+    /// A word isn't UTF-8.
+    Refused,
+    /// Memory ran out.
+    Memory,
+}
+
+impl From<AllocError> for Stop {
+    ghost use Rattle.std.specs.Prelude.{◌≡◌};
+    ghost use Rattle.cudf_calls.specs.declared.carried.Stop.TheVariants.{Memory};
+
+    ghost from_gives = { λ _ stop. stop ≡ Memory };
+
+    fn from(_error: AllocError) -> Self {
+        Stop::Memory
+    }
+}
+
+// No read of a document in memory fails, and no write to a front; and that no document is too long is known before it is read.
+impl From<RunError> for Stop {
+    ghost use Rattle.std.specs.Prelude.{◌≡◌};
+    ghost use Rattle.cudf_calls.specs.declared.carried.Stop.TheVariants.{Memory};
+
+    ghost from_gives = { λ _ stop. stop ≡ Memory };
+
+    fn from(_error: RunError) -> Self {
+        Stop::Memory
     }
 }

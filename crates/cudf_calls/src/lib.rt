@@ -15,17 +15,10 @@ ghost use Rattle.cudf_calls.specs.Calls.{Runs, left};
 mod carried;
 mod document;
 mod front;
-mod lengths;
-mod line;
-mod stop;
-mod taken;
-mod told;
 
-use carried::obey;
-use line::line;
+use carried::{Stop, obey, refuse, show};
+use document::line;
 use std::alloc::Global;
-use stop::Stop;
-use told::{refuse, show};
 
 /// A word of a caller's.
 #[repr(C)]

@@ -2,10 +2,10 @@
 use Rattle.std.proofs.Common.{◌≡◌, ℕ, zero, suc, ◌+◌, ◌<◌, ◌≤◌, ◌==◌, Bool, true, false, not, eqb-true, List, [], ◌∷◌, ◌++◌, length, map, drop, get_or, Some, option_map, slice_get, refl, sym, ap, ◌∙◌, append_assoc, append-nil, arith}
 use Rattle.std.proofs.lemmas.Bool.{and_from as both}
 use Rattle.std.specs.List.{filter_map, cons_option, enumerate_from, list_all}
-use Rattle.cudf_problem.specs.declared.mode.Mode.{Mode}
+use Rattle.cudf_problem.specs.declared.problem.Mode.{Mode}
 use Rattle.cudf_text.specs.declared.fault.Fault.{Fault}
-use Rattle.cudf_document.specs.declared.error.ReadError.{ReadError}
-use Rattle.cudf_document.specs.declared.error.ReadError.TheVariants as read_error
+use Rattle.cudf_document.specs.declared.fault.ReadError.{ReadError}
+use Rattle.cudf_document.specs.declared.fault.ReadError.TheVariants as read_error
 use Rattle.cudf_problem.specs.Universe.{PlainProblem}
 use Rattle.cudf_check.specs.RankReport.{placed_faults, entrants}
 use Rattle.cudf_check.specs.Report.{solution_fault}

@@ -10,7 +10,7 @@ use Rattle.cudf_text.specs.declared.fault.Fault.{Fault}
 use Rattle.cudf_text.specs.Joined.{is_fail}
 use Rattle.cudf_text.specs.LineFaults.{utf8_fault}
 use Rattle.cudf_text.specs.Stanzas.{PlainText, plain_text}
-use Rattle.cudf_problem.specs.declared.mode.Mode.{Mode}
+use Rattle.cudf_problem.specs.declared.problem.Mode.{Mode}
 use Rattle.cudf_problem.specs.Statuses.{PlainUnknown}
 use Rattle.cudf_problem.specs.Promises.Packages.{are_distinct}
 use Rattle.cudf_problem.specs.Universe.{PlainProblem, package_id, plain_problem}
@@ -19,7 +19,7 @@ use Rattle.cudf_document.specs.ProblemFaults.{problem_faults}
 use Rattle.cudf_document.proofs.FaultLemmas.{least-none}
 use Rattle.cudf_document.proofs.FaultlessLemmas.{ids_distinct}
 use Rattle.cudf_job.specs.Keys.{PlainKey}
-use Rattle.cudf_job.specs.declared.aims.Aim.{Aim}
+use Rattle.cudf_job.specs.declared.criteria.Aim.{Aim}
 use Rattle.cudf_job.specs.declared.criteria.Criteria.{Criteria}
 use Rattle.cudf_job.specs.declared.job.Job.{Job}
 use Rattle.cudf_job.specs.declared.ranking.Judgement.TheVariants.{Solution, NoSolution, SaysFail}

@@ -7,9 +7,9 @@ use Rattle.cudf_text.specs.declared.fault.Fault.{Fault}
 use Rattle.cudf_text.specs.Joined.{is_fail}
 use Rattle.cudf_text.specs.LineFaults.{utf8_fault}
 use Rattle.cudf_text.specs.Stanzas.{PlainStanza, PlainText, plain_text}
-use Rattle.cudf_document.specs.declared.error.ReadError.{ReadError}
-use Rattle.cudf_document.specs.declared.error.ReadError.TheVariants as read_error
-use Rattle.cudf_problem.specs.declared.mode.Mode.{Mode}
+use Rattle.cudf_document.specs.declared.fault.ReadError.{ReadError}
+use Rattle.cudf_document.specs.declared.fault.ReadError.TheVariants as read_error
+use Rattle.cudf_problem.specs.declared.problem.Mode.{Mode}
 use Rattle.cudf_document.specs.Faults.{least}
 use Rattle.cudf_document.specs.ProblemFaults.{problem_faults}
 use Rattle.cudf_document.specs.SolutionFaults.{solution_faults}
@@ -18,7 +18,7 @@ use Rattle.cudf_problem.specs.Statuses.{PlainUnknown, is_initial, is_proposed, u
 use Rattle.cudf_problem.specs.Documents.{is_empty}
 use Rattle.cudf_problem.specs.Universe.{PlainPackage, PlainProblem}
 use Rattle.cudf_document.specs.Details.{stanza_line}
-use Rattle.cudf_job.specs.declared.aims.Aim.{Aim}
+use Rattle.cudf_job.specs.declared.criteria.Aim.{Aim}
 use Rattle.cudf_job.specs.declared.job.Job.{Job}
 use Rattle.cudf_job.specs.declared.job.Job.TheVariants.{Lint, Check, Score, Rank, Cnf, CnfBetter, Refute, RefuteBetter}
 use Rattle.cudf_job.specs.declared.key.Key.{Key}

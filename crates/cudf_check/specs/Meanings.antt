@@ -6,7 +6,7 @@ use Rattle.cudf_text.specs.Stanzas.{plain_text}
 use Rattle.cudf_problem.specs.Statuses.{PlainUnknown}
 use Rattle.cudf_problem.specs.Universe.{PlainProblem, plain_problem}
 use Rattle.cudf_job.specs.Comparing.{compare}
-use Rattle.cudf_job.specs.declared.aims.Aim.{Aim}
+use Rattle.cudf_job.specs.declared.criteria.Aim.{Aim}
 use Rattle.cudf_job.specs.declared.job.Job.{Job}
 use Rattle.cudf_job.specs.declared.job.Job.TheVariants.{Cnf, CnfBetter, Refute, RefuteBetter}
 use Rattle.cudf_lrat.specs.Literals.{PlainCnf, is_satisfied_by}

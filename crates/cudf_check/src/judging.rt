@@ -1,21 +1,31 @@
-//! Judges the solutions of a problem, and says what comes of them together.
-ghost use Rattle.std.specs.Prelude.{◌≡◌, ℕ, List, map, IfOk, IfErr};
+//! Judges the solutions of a problem that are ranked, and the one that is to be bettered.
+ghost use Rattle.std.specs.Prelude.{◌≡◌, ℕ, List, map, IfOk, IfErr, Option, slice_get};
 ghost use Rattle.std.specs.List.{list_any};
 ghost use Rattle.cudf_problem.specs.Universe.{PlainProblem};
-ghost use Rattle.cudf_problem.specs.declared.mode.Mode.{Mode};
-ghost use Rattle.cudf_check.specs.RankReport.{best_outcome, judgement_of};
-ghost use Rattle.cudf_check.specs.Report.{solution_fault};
-ghost use Rattle.cudf_check.specs.Working.Judged.{IsJudged, AreJudged, IsUnranked, is_a_solution, is_no_solution};
+ghost use Rattle.cudf_problem.specs.declared.problem.Mode.{Mode};
+ghost use Rattle.cudf_device.specs.Outcomes.{Report};
+ghost use Rattle.cudf_device.specs.Promises.PaperInside.{Prints};
+ghost use Rattle.cudf_device.specs.Readers.{names_in};
+ghost use Rattle.cudf_check.specs.RankReport.{best_outcome, judgement_of, placed_faults, solutions_report};
+ghost use Rattle.cudf_check.specs.Report.{solution_fault, problem_report};
+ghost use Rattle.cudf_check.specs.Working.Judged.{IsJudged, AreJudged, IsUnranked, is_a_solution, is_no_solution, first_faulty_or};
 ghost use Rattle.cudf_check.specs.Working.Unjudged.{IsFaultOf, IsUnjudged};
+ghost use Rattle.cudf_check.specs.JobStyles.{ranking_style};
+ghost use Rattle.cudf_check.specs.Working.Named.{names_given};
+ghost use Rattle.cudf_check.specs.BetterReport.{better_report, judged_as};
+ghost use Rattle.cudf_check.specs.Styles.{plainly};
+ghost use Rattle.cudf_check.specs.Working.Bettered.{question_answer, question_view};
 
-use crate::readings::{Unjudged, proposed_in};
-use crate::setting::Setting;
-use cudf_device::Outcome;
-use cudf_document::{Problem, ReadError, solution_of};
-use cudf_job::{Entrant, Judgement};
-use cudf_referee::Referee;
+use crate::lines::{print_best, print_better, print_faulty_solution, print_ranking};
+use crate::naming::{Given, Others, name_at, own_file};
+use crate::readings::{Unjudged, problem_in, proposed_in};
+use crate::report::{Document, Setting, print_unread, print_unsound};
+use cudf_device::{Outcome, Paper, Sink, Source};
+use cudf_document::{NameRoom, Problem, ReadError, solution_of};
+use cudf_job::{Entrant, Judgement, ranked as in_order};
+use cudf_referee::{Aim, Criteria, Referee};
 use cudf_text::Room;
-use std::alloc::AllocError;
+use std::alloc::{AllocError, Global};
 
 /// Why the solutions aren't ranked.
 #[derive(Drop)]
@@ -137,5 +147,162 @@ pub(crate) fn best_outcome(entrants: &[Entrant]) -> Outcome
         Outcome::No
     } else {
         Outcome::Fail
+    }
+}
+
+/// Prints which fault a solution has that isn't judged.
+fn print_unranked<S: Source, W: Sink>(
+    paper: &mut Paper<'_, W>,
+    sources: &[S],
+    unranked: Unranked,
+) -> Result<Outcome, AllocError>
+    ensures { (first : Option (List ℕ)) → (mode : Mode) → (problem : PlainProblem) → (solutions : _) → (report : Report) → IsUnranked mode problem solutions unranked
+        → Prints W.state paper.old paper.new
+        (first_faulty_or (ranking_style (record { first = first; others = names_in S.state sources.now })) (slice_get (placed_faults mode problem solutions) 0) report) result }
+{
+    let place = unranked.place;
+    match unranked.error {
+        ReadError::Fault(fault) => {
+            print_faulty_solution(paper, name_at(sources, place), place, fault);
+            Ok(Outcome::Faulty)
+        }
+        ReadError::Memory(error) => Err(error),
+    }
+}
+
+/// Ranks the solutions of a problem.
+pub(crate) fn print_rank_report<S: Source, W: Sink>(
+    paper: &mut Paper<'_, W>,
+    setting: Setting,
+    aims: &[Aim],
+    problem: Given<'_, '_>,
+    solutions: Others<'_, S>,
+) -> Result<Outcome, AllocError>
+    ensures { let style = ranking_style (names_given S.state problem.entry solutions.entry.sources.now) in
+        Prints W.state paper.old paper.new (problem_report style setting.mode problem.entry.bytes.now
+        (λ p. solutions_report style aims.now setting.mode p (map (λ b. b.items) solutions.entry.texts.now))) result }
+{
+    let mut room = Room::new(setting.alloc);
+    let mut names = NameRoom::new(setting.alloc);
+    match problem_in(setting, problem.bytes, &mut room, &mut names) {
+        Ok(problem) => print_judged(paper, setting, aims, &problem, solutions),
+        Err(error) => {
+            let origin = own_file(problem.name);
+            print_unsound(paper, setting, origin, problem.bytes, false, error)
+        }
+    }
+}
+
+/// The same, where this is the problem, and it has no fault.
+fn print_judged<S: Source, W: Sink>(
+    paper: &mut Paper<'_, W>,
+    setting: Setting,
+    aims: &[Aim],
+    problem: &Problem<'_>,
+    solutions: Others<'_, S>,
+) -> Result<Outcome, AllocError>
+    ensures { (first : Option (List ℕ)) → let style = ranking_style (record { first = first; others = names_in S.state solutions.entry.sources.now }) in
+        Prints W.state paper.old paper.new (solutions_report style aims.now setting.mode problem.now (map (λ b. b.items) solutions.entry.texts.now)) result }
+{
+    let Others { texts, sources } = solutions;
+    match judge_each(setting, problem, texts) {
+        Ok(entrants) => {
+            let outcome = best_outcome(&entrants);
+            let ranked = in_order(aims, entrants)?;
+            print_ranking(paper, aims, sources, &ranked);
+            Ok(outcome)
+        }
+        Err(unranked) => print_unranked(paper, sources, unranked),
+    }
+}
+
+/// What is asked about a solution.
+#[derive(Clone, Copy)]
+pub(crate) struct Question<'q> {
+    /// By which aims others compare with it.
+    pub(crate) aims: &'q [Aim],
+    /// A proof that none is better; without one the CNF is asked for.
+    pub(crate) proof: Option<&'q [u8]>,
+}
+
+/// Answers whether a solution of a problem can be bettered.
+pub(crate) fn print_better_report<W: Sink>(
+    paper: &mut Paper<'_, W>,
+    setting: Setting,
+    question: Question<'_>,
+    problem: &[u8],
+    solution: &[u8],
+) -> Result<Outcome, AllocError>
+    ensures { Prints W.state paper.old paper.new
+        (problem_report plainly setting.mode problem.now (better_report plainly setting.mode (question_answer (question_view question.entry)) solution.now)) result }
+{
+    let mut room = Room::new(setting.alloc);
+    let mut names = NameRoom::new(setting.alloc);
+    match problem_in(setting, problem, &mut room, &mut names) {
+        Ok(problem) => print_asked(paper, setting, question, &problem, solution),
+        Err(error) => print_unsound(paper, setting, None, problem, false, error),
+    }
+}
+
+/// The same, where this is the problem, and it has no fault.
+fn print_asked<W: Sink>(
+    paper: &mut Paper<'_, W>,
+    setting: Setting,
+    question: Question<'_>,
+    problem: &Problem<'_>,
+    solution: &[u8],
+) -> Result<Outcome, AllocError>
+    ensures { Prints W.state paper.old paper.new (better_report plainly setting.mode (question_answer (question_view question.entry)) solution.now problem.now) result }
+{
+    match judge(setting, problem, solution) {
+        Ok(judgement) => print_judgement(paper, setting.alloc, question, problem, judgement),
+        Err(error) => {
+            let document = Document {
+                whose: "solution",
+                origin: None,
+                bytes: solution,
+                explain: false,
+            };
+            print_unread(paper, setting.alloc, document, error)
+        }
+    }
+}
+
+/// The same, where this was found of the solution, and it has no fault.
+fn print_judgement<W: Sink>(
+    paper: &mut Paper<'_, W>,
+    alloc: Global,
+    question: Question<'_>,
+    problem: &Problem<'_>,
+    judgement: Judgement,
+) -> Result<Outcome, AllocError>
+    ensures { Prints W.state paper.old paper.new (judged_as (question_answer (question_view question.entry) problem.now) judgement) result }
+{
+    match judgement {
+        Judgement::Solution(counts) => print_answer(paper, alloc, question, problem, &counts),
+        Judgement::NoSolution => {
+            paper.text("solution no\n");
+            Ok(Outcome::No)
+        }
+        Judgement::SaysFail => {
+            paper.text("solution FAIL\n");
+            Ok(Outcome::Fail)
+        }
+    }
+}
+
+/// The same of a solution with these counts.
+fn print_answer<W: Sink>(
+    paper: &mut Paper<'_, W>,
+    alloc: Global,
+    question: Question<'_>,
+    problem: &Problem<'_>,
+    counts: &Criteria,
+) -> Result<Outcome, AllocError>
+    ensures { Prints W.state paper.old paper.new (question_answer (question_view question.entry) problem.now counts.now) result }
+{
+    match question.proof {
+        Some(proof) => print_best(paper, alloc, problem, counts, question.aims, proof),
+        None => print_better(paper, alloc, problem, counts, question.aims),
     }
 }

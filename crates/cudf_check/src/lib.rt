@@ -12,16 +12,12 @@ ghost use Rattle.cudf_check.specs.Meanings.{Means};
 ghost use Rattle.cudf_check.specs.Naming.{names_of};
 ghost use Rattle.cudf_check.specs.Runs.{HasRead, Runs};
 
-mod better_report;
-mod job;
 mod judging;
 pub mod laws;
 mod lines;
 mod naming;
-mod rank_report;
 mod readings;
 mod report;
-mod setting;
 
 use cudf_better::laws::better;
 use cudf_cnf::laws::solution as encoded;
@@ -32,8 +28,7 @@ pub use cudf_job::Job;
 use cudf_lrat::laws::refuted;
 pub use cudf_referee::{Aim, Count, Criteria, Key, Sign, compare, read_criterion};
 use naming::{Given, Others};
-use report::answer_job;
-use setting::Setting;
+use report::{Setting, answer_job};
 use std::alloc::Global;
 
 /// Reads `first` to its end, and then each of the `others` in order; reads the documents in this mode, answers the job and

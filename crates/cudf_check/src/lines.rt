@@ -1,26 +1,20 @@
 //! Prints the lines of reports. All memory is taken before the first line is printed.
-mod aims;
-mod alone;
+
 mod better;
 mod detail;
 mod dimacs;
 mod explanation;
 mod instance;
 mod judged;
-mod listed;
 mod naming;
-mod page;
-mod proof;
 mod ranks;
 mod reasons;
-mod score;
 mod scribe;
-mod shown;
 
-pub(crate) use alone::print_faulty;
 pub(crate) use better::{print_best, print_better};
 pub(crate) use dimacs::print_cnf;
 pub(crate) use instance::package_at;
 pub(crate) use judged::print_solution;
+pub(crate) use naming::print_faulty;
 pub(crate) use ranks::{print_faulty_solution, print_ranking};
 pub(crate) use reasons::print_proof;

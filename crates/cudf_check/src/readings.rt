@@ -9,7 +9,7 @@ ghost use Rattle.cudf_document.specs.Details.{stanza_line};
 ghost use Rattle.cudf_check.specs.Report.{problem_fault, solution_fault};
 ghost use Rattle.cudf_check.specs.Working.Unjudged.{IsFaultOf, IsUnjudged};
 
-use crate::setting::Setting;
+use crate::report::Setting;
 use cudf_document::{
     NameRoom, Problem, Proposed, ReadError, first_fault, problem_of, proposed_of, stanza_lines,
 };

@@ -2,31 +2,28 @@
 ghost use Rattle.std.specs.Prelude.{◌≡◌, ℕ, Bool, false, IfOk, List, None, Option, codes, map, option_map, if◌then◌else◌};
 ghost use Rattle.cudf_text.specs.Joined.{is_fail, problem_part, solution_part};
 ghost use Rattle.cudf_text.specs.declared.fault.Fault.{Fault};
-ghost use Rattle.cudf_problem.specs.declared.mode.Mode.{Mode};
+ghost use Rattle.cudf_problem.specs.declared.problem.Mode.{Mode};
 ghost use Rattle.cudf_document.specs.Promises.Views.{detail_view};
-ghost use Rattle.cudf_referee.specs.Proposals.{Proposal};
 ghost use Rattle.cudf_device.specs.declared.outcome.Outcome.TheVariants.{Fail, Yes};
+ghost use Rattle.cudf_device.specs.Outcomes.{Report};
+ghost use Rattle.cudf_device.specs.Promises.Answering.{Answers};
+ghost use Rattle.cudf_device.specs.Promises.PaperInside.{Prints};
+ghost use Rattle.cudf_referee.specs.Proposals.{Proposal};
 ghost use Rattle.cudf_check.specs.JobStyles.{detail_if, document_style, explains, inputs_style, pair_style, refutation_style};
 ghost use Rattle.cudf_check.specs.Naming.{one_file, own_file};
 ghost use Rattle.cudf_check.specs.Report.{alone, cnf_answer, problem_fault, problem_report, refute_answer, solution_fault, solution_report};
 ghost use Rattle.cudf_check.specs.JobReport.{inputs_report, report};
 ghost use Rattle.cudf_check.specs.Styles.{Style, of_problem, of_solution};
-ghost use Rattle.cudf_device.specs.Outcomes.{Report};
-ghost use Rattle.cudf_device.specs.Promises.Answering.{Answers};
-ghost use Rattle.cudf_device.specs.Promises.PaperInside.{Prints};
 ghost use Rattle.cudf_check.specs.Working.Found.{found_text, pair_report};
 ghost use Rattle.cudf_check.specs.Working.Named.{given_names, names_given, origin_view, origins_view, style_for};
 ghost use Rattle.cudf_check.specs.Working.Unjudged.{IsFaultOf, IsUnjudged, faulty_or};
 
-use crate::better_report::{Question, print_better_report};
-use crate::job::explains;
+use crate::judging::{Question, print_better_report, print_rank_report};
 use crate::lines::{print_cnf, print_faulty, print_proof, print_solution};
 use crate::naming::{Given, Origin, Origins, Others, file_behind, own_file};
-use crate::rank_report::print_rank_report;
 use crate::readings::{Unjudged, problem_in, proposed_in, sound_in};
-use crate::setting::Setting;
 use cudf_device::{Outcome, Paper, ReportBuffer, RunError, Sink, Source};
-use cudf_document::{Detail, NameRoom, Problem, ReadError, detail, solution_of};
+use cudf_document::{Detail, Mode, NameRoom, Problem, ReadError, detail, solution_of};
 use cudf_job::Job;
 use cudf_text::{Fault, Room, cut_joined};
 use std::alloc::{AllocError, Global};
@@ -326,4 +323,25 @@ pub(crate) fn answer_job<S: Source, W: Sink>(
     let mut paper = Paper::new(out, &mut waiting);
     let answer = print_report(&mut paper, setting, job, first, others);
     paper.finish(answer)
+}
+
+/// Where a run's memory comes from, and how strictly it reads documents.
+#[derive(Clone, Copy)]
+pub(crate) struct Setting {
+    pub(crate) alloc: Global,
+    pub(crate) mode: Mode,
+}
+
+/// Whether the job asks for lines that are explained.
+pub(crate) fn explains(job: &Job) -> bool
+    ensures { result ≡ explains job.now }
+{
+    match job {
+        Job::Lint { explain } | Job::Check { explain, .. } | Job::Refute { explain } => *explain,
+        Job::Score { .. }
+        | Job::Rank { .. }
+        | Job::Cnf
+        | Job::CnfBetter { .. }
+        | Job::RefuteBetter { .. } => false,
+    }
 }

@@ -9,7 +9,7 @@ use Rattle.cudf_problem.specs.Universe.{PlainProblem}
 use Rattle.cudf_job.specs.Keys.{PlainKey}
 use Rattle.cudf_lrat.specs.declared.cnf.Literal.{Literal}
 use Rattle.cudf_referee.specs.Instances.{PlainInstance}
-use Rattle.cudf_cnf.specs.declared.collector.Collector.{Collector}
+use Rattle.cudf_cnf.specs.declared.clauses.Collector.{Collector}
 use Rattle.cudf_cnf.specs.Cnf.{Keyed, cnf, keyed_clauses}
 use Rattle.cudf_cnf.specs.Working.Collecting.{Outcome, Received}
 use Rattle.cudf_cnf.specs.Working.Parts.{keyed}

@@ -2,7 +2,7 @@
 use Rattle.std.proofs.Common.{◌≡◌, ℕ, ◌<◌, ◌≤◌, ◌^◌, ◌||◌, true, false, nat_lt, List, length, Option, Some, None, subst, ap, arith}
 use Rattle.std.proofs.lemmas.Bool.Decides.{nat_tests}
 use Rattle.cudf_problem.specs.Universe.{PlainProblem}
-use Rattle.cudf_cnf.specs.declared.collector.Collector.{Collector}
+use Rattle.cudf_cnf.specs.declared.clauses.Collector.{Collector}
 use Rattle.cudf_cnf.specs.Cnf.{Keyed, cnf, is_too_large}
 use Rattle.cudf_cnf.specs.Encodings.{IsEncoded, PlainKeyedClauses}
 use Rattle.cudf_cnf.specs.Working.Collecting.{IsHeld, Received}

@@ -6,7 +6,7 @@ use Rattle.std.proofs.lemmas.Bool.{eqb-true, true≢false}
 use Rattle.std.proofs.lemmas.Bool.Decides.{nat_tests}
 use Rattle.std.proofs.lemmas.List.Elements.{filter_agree}
 use Rattle.std.proofs.lemmas.List.Folds.{list_any_at}
-use Rattle.cudf_value.specs.declared.relop.Relop.TheVariants.{Neq}
+use Rattle.cudf_value.specs.declared.vpkg.Relop.TheVariants.{Neq}
 use Rattle.cudf_value.specs.Vpkgs.{meets}
 use Rattle.cudf_index.specs.Promises.Places.{at, gives_number, numbers_at, places_where}
 use Rattle.cudf_index.specs.Satisfaction.{Placed, numbers_of}

@@ -7,7 +7,7 @@ use Rattle.std.proofs.lemmas.Bool.Decides.{nat_tests}
 use Rattle.std.proofs.lemmas.List.Elements.{filter_agree}
 use Rattle.std.proofs.lemmas.List.Folds.{flat_map-map, list_any_at, list_any_none}
 use Rattle.cudf_problem.specs.Universe.{PlainPackage}
-use Rattle.cudf_value.specs.declared.relop.Relop.TheVariants.{Lt}
+use Rattle.cudf_value.specs.declared.vpkg.Relop.TheVariants.{Lt}
 use Rattle.cudf_value.specs.Vpkgs.{meets}
 use Rattle.cudf_index.specs.Promises.Counts.{differ}
 use Rattle.cudf_index.specs.Promises.Members.{IsGreatest}

@@ -13,12 +13,10 @@ ghost use Rattle.cudf_cnf.specs.Cnf.{keyed_clauses, upgrade_clauses};
 ghost use Rattle.cudf_cnf.specs.Working.Collecting.{Outcome, SameFrame};
 ghost use Rattle.cudf_cnf.specs.Working.Parts.{AreBefore, Fits, is_many, is_many_what, keyed};
 
-use crate::clauses::KeyedClauses;
-use crate::collector::Collector;
-use crate::many::put_many;
-use crate::put::{Scratch, is_in};
+use crate::clauses::{Collector, KeyedClauses};
 use crate::rules::{
-    place_of, put_conflict, put_lower, put_meeting, put_named, put_needs, put_removal,
+    Scratch, is_in, place_of, put_conflict, put_lower, put_many, put_meeting, put_named, put_needs,
+    put_removal,
 };
 use cudf_index::Index;
 use cudf_job::{Aspect, Key};

@@ -3,16 +3,12 @@
 #![tactic(auto)]
 
 mod clauses;
-mod collector;
-mod counted;
 mod encoder;
 mod encoding;
 pub mod laws;
-mod many;
-mod put;
 mod rules;
 
 pub use clauses::KeyedClauses;
 pub use encoder::all_of;
 pub use encoding::encoded;
-pub use put::{add_places, is_in, is_out};
+pub use rules::{add_places, is_in, is_out};

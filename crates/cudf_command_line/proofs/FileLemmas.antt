@@ -7,7 +7,7 @@ use Rattle.std.specs.Option.{option_to_list}
 use Rattle.cudf_command_line.specs.Command.{AreNamedBy, IsNamedBy, Refuses, Words, are_standard_twice, files_alone, is_standard, other_words}
 use Rattle.cudf_command_line.specs.declared.command.FileName.{FileName}
 use Rattle.cudf_command_line.specs.declared.command.FileName.TheVariants.{Path, Standard}
-use Rattle.cudf_command_line.specs.declared.refusal.Refusal.TheVariants.{Twice}
+use Rattle.cudf_command_line.specs.declared.usage.Refusal.TheVariants.{Twice}
 
 -- ---- one more
 

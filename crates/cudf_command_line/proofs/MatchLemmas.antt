@@ -4,7 +4,7 @@ use Rattle.clap.specs.declared.parser.matches.Found.{Found}
 use Rattle.clap.specs.Words.{Row, rows_of}
 use Rattle.clap.proofs.WalkLemmas.{first_value-rows, raw_values-rows}
 use Rattle.cudf_command_line.specs.declared.command.Order.{Order}
-use Rattle.cudf_command_line.specs.declared.refusal.Refusal.{Refusal}
+use Rattle.cudf_command_line.specs.declared.usage.Refusal.{Refusal}
 use Rattle.cudf_command_line.specs.Command.{words_of, words_in, Asks, AsksOf, IsAskedBy, IsRefusedBy, arguments, has_list_apart}
 
 words-rows : (found : Found) → words_of found ≡ words_in (rows_of found)

@@ -9,20 +9,20 @@ use Rattle.clap.specs.declared.parser.matches.Found.{Found}
 use Rattle.cudf_text.specs.Chars.{trim}
 use Rattle.cudf_value.specs.Numbers.{positive}
 use Rattle.cudf_job.specs.Promises.Aims.{criterion}
-use Rattle.cudf_job.specs.declared.aims.Aim.{Aim}
+use Rattle.cudf_job.specs.declared.criteria.Aim.{Aim}
 use Rattle.cudf_job.specs.Keys.{PlainKey, key_text}
 use Rattle.cudf_job.specs.Promises.Keys.{IsWritable}
 use Rattle.cudf_job.specs.KeyViews.{key_view}
 use Rattle.cudf_job.specs.declared.key.Key.{Key}
-use Rattle.cudf_problem.specs.declared.mode.Mode.{Mode}
-use Rattle.cudf_problem.specs.declared.mode.Mode.TheVariants.{Lenient, Strict}
+use Rattle.cudf_problem.specs.declared.problem.Mode.{Mode}
+use Rattle.cudf_problem.specs.declared.problem.Mode.TheVariants.{Lenient, Strict}
 use Rattle.cudf_job.specs.declared.job.Job.{Job}
 use Rattle.cudf_job.specs.declared.job.Job.TheVariants.{Lint, Check, Score, Rank, Cnf, CnfBetter, Refute, RefuteBetter}
 use Rattle.cudf_command_line.specs.declared.command.FileName.{FileName}
 use Rattle.cudf_command_line.specs.declared.command.FileName.TheVariants.{Path, Standard}
 use Rattle.cudf_command_line.specs.declared.command.Order.{Order}
-use Rattle.cudf_command_line.specs.declared.refusal.Refusal.{Refusal}
-use Rattle.cudf_command_line.specs.declared.refusal.Refusal.TheVariants.{Missing, Twice, NoKey, NoNumber, NoList, Apart, Unpaired, Explained, Memory}
+use Rattle.cudf_command_line.specs.declared.usage.Refusal.{Refusal}
+use Rattle.cudf_command_line.specs.declared.usage.Refusal.TheVariants.{Missing, Twice, NoKey, NoNumber, NoList, Apart, Unpaired, Explained, Memory}
 
 -- ---- files
 

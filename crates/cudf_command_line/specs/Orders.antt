@@ -8,8 +8,8 @@ use Rattle.cudf_command_line.specs.Command.{IsAskedBy, IsRefusedBy, arguments, t
 use Rattle.cudf_command_line.specs.Grammar.{grammar}
 use Rattle.cudf_command_line.specs.Usage.{kind_status, usage_status}
 use Rattle.cudf_command_line.specs.declared.command.Order.{Order}
-use Rattle.cudf_command_line.specs.declared.refusal.Refusal.{Refusal}
-use Rattle.cudf_command_line.specs.declared.refusal.Refusal.TheVariants.{Apart}
+use Rattle.cudf_command_line.specs.declared.usage.Refusal.{Refusal}
+use Rattle.cudf_command_line.specs.declared.usage.Refusal.TheVariants.{Apart}
 use Rattle.cudf_command_line.specs.declared.usage.Usage.{Usage}
 use Rattle.cudf_command_line.specs.declared.usage.Usage.TheVariants.{Told, Mistake, Refused, Memory}
 

@@ -1,7 +1,7 @@
 //! What the words of the command line ask for.
-ghost use Rattle.std.specs.Prelude.{◌≡◌, ◌||◌, [], IfOk, MatchResult, drop, is_some, map, option_map, string_bytes, true, false, unwrap_or};
 ghost use Rattle.clap.specs.Matches.{found_of};
 ghost use Rattle.clap.specs.Words.{subcommand_rows_of};
+ghost use Rattle.std.specs.Prelude.{◌≡◌, ◌||◌, [], IfOk, MatchResult, drop, is_some, map, option_map, string_bytes, true, false, unwrap_or};
 ghost use Rattle.cudf_command_line.specs.Command.{IsNamedBy, AreNamedBy, IsAfter, IsLimit, IsList, IsPair, other_words, words_of, lint_words, check_words, score_words, rank_words, cnf_words, refute_words, AnswersBy, Lints, Checks, Scores, Ranks, PrintsCnf, ChecksProof, RefusesKey, RefusesLimit, RefusesList, RefusesPair, Asks, IsAskedBy, IsRefusedBy, has_list_apart, is_given, mode_of, takes_list, takes_list_apart, takes_standard_twice};
 ghost use Rattle.cudf_command_line.specs.Orders.{IsAskedFor, IsUnasked};
 
@@ -9,10 +9,7 @@ use crate::grammar::{
     AFTER, BETTER_THAN, CHECK, CNF, CRITERIA, EXPLAIN, LIMIT, LINT, PROBLEM, PROOF, RANK, REFUTE,
     SCORE, SOLUTION, SOLUTIONS, STRICT, WITH_FILENAME, program,
 };
-use crate::refusal::Refusal;
-use crate::shown::Shown;
-use crate::topic::Topic;
-use crate::usage::{Usage, unparsed};
+use crate::usage::{Refusal, Shown, Topic, Usage, unparsed};
 use clap::ArgMatches;
 use cudf_job::{Aim, Job, Key, read_criterion};
 use cudf_problem::Mode;
@@ -321,7 +318,7 @@ fn read_pair<'w>(
 
 impl From<AllocError> for Refusal<'_> {
     ghost use Rattle.std.specs.Prelude.{◌≡◌};
-    ghost use Rattle.cudf_command_line.specs.declared.refusal.Refusal.TheVariants.{Memory};
+    ghost use Rattle.cudf_command_line.specs.declared.usage.Refusal.TheVariants.{Memory};
 
     ghost from_gives = { λ _ refusal. refusal ≡ Memory };
 

@@ -3,12 +3,7 @@
 
 pub mod command;
 mod grammar;
-mod refusal;
-mod shown;
-mod topic;
 mod usage;
 
 pub use command::{FileName, Order};
-pub use refusal::Refusal;
-pub use topic::Topic;
-pub use usage::Usage;
+pub use usage::{Refusal, Topic, Usage};

@@ -1,16 +1,14 @@
-//! Why the words of the command line start no run.
-ghost use Rattle.std.specs.Prelude.{◌≡◌, IfOk, map, string_bytes};
+//! Why the words of the command line start no run, and how messages show them.
 ghost use Rattle.clap.specs.Values.{kind_of};
+ghost use Rattle.std.specs.Prelude.{◌≡◌, IfOk, map, string_bytes};
 ghost use Rattle.cudf_command_line.specs.Orders.{IsUnparsed, TellsApart};
 ghost use Rattle.cudf_command_line.specs.Usage.{usage_status};
 
 use crate::command::{arguments, takes_list_apart};
-use crate::grammar::program;
-use crate::refusal::Refusal;
-use crate::shown::shown_words;
-use crate::topic::Topic;
+use crate::grammar::{CHECK, CNF, LINT, RANK, REFUTE, SCORE, program};
 use clap::error::ErrorKind;
 use std::alloc::{AllocError, Global};
+use std::fmt;
 use std::io::{self, Write};
 
 /// Why the words start no run.
@@ -190,4 +188,187 @@ impl From<AllocError> for Usage<'_> {
     fn from(_error: AllocError) -> Self {
         Usage::Memory
     }
+}
+
+/// Why the words of a command ask for no run.
+#[derive(Clone, Copy)]
+pub enum Refusal<'w> {
+    /// A word is missing.
+    Missing,
+    /// Two files are standard input.
+    Twice,
+    /// The word of `--after` is no key.
+    NoKey(&'w str),
+    /// The word of `--limit` is no positive integer.
+    NoNumber(&'w str),
+    /// The word of `--criteria` is no list of aims.
+    NoList(&'w str),
+    /// `--criteria` and its list are two words.
+    Apart,
+    /// One of `--better-than` and `--criteria` is there without the other.
+    Unpaired,
+    /// `--explain` is there beside `--better-than`.
+    Explained,
+    /// Memory ran out.
+    Memory,
+}
+
+impl Refusal<'_> {
+    ghost use Rattle.std.specs.Prelude.{◌≡◌};
+    ghost use Rattle.cudf_command_line.specs.Command.{refusal_status};
+
+    /// The exit status: 6 for `Memory`, and else 4.
+    pub fn status(self) -> u8
+        ensures { result ≡ refusal_status self.entry }
+    {
+        match self {
+            Refusal::Memory => 6,
+            Refusal::Missing
+            | Refusal::Twice
+            | Refusal::NoKey(_)
+            | Refusal::NoNumber(_)
+            | Refusal::NoList(_)
+            | Refusal::Apart
+            | Refusal::Unpaired
+            | Refusal::Explained => 4,
+        }
+    }
+}
+
+impl fmt::Display for Refusal<'_> {
+    fn fmt<W: fmt::Write>(&self, f: &mut fmt::Formatter<W>) -> fmt::Result {
+        match self {
+            Refusal::Missing => write!(f, "a word is missing"),
+            Refusal::Twice => write!(f, "- can stand for one file only"),
+            Refusal::NoKey(word) => {
+                let word = Shown(word);
+                write!(
+                    f,
+                    "invalid value '{word}' for '--after <KEY>': a key is written as in a report, such as p1.depends.2"
+                )
+            }
+            Refusal::NoNumber(word) => {
+                let word = Shown(word);
+                write!(
+                    f,
+                    "invalid value '{word}' for '--limit <N>': not a number from 1 to 18446744073709551615"
+                )
+            }
+            Refusal::NoList(word) => {
+                let word = Shown(word);
+                write!(
+                    f,
+                    "invalid value '{word}' for '--criteria=<LIST>': a list is written without blanks, as -removed,+new, of removed, new, changed, notuptodate, unsat_recommends and touched, each after - or +"
+                )
+            }
+            Refusal::Apart => write!(
+                f,
+                "equal sign is needed when assigning values to '--criteria=<LIST>': the list is written after it, as --criteria=-removed"
+            ),
+            Refusal::Unpaired => write!(
+                f,
+                "--better-than=<S> and --criteria=<LIST> go together: give both, or neither"
+            ),
+            Refusal::Explained => write!(
+                f,
+                "--explain isn't an option of refute with --better-than"
+            ),
+            Refusal::Memory => write!(f, "there is not enough memory"),
+        }
+    }
+}
+
+/// A command, or the program where the words name none.
+#[derive(Clone, Copy)]
+pub enum Topic {
+    /// The program.
+    Program,
+    /// The command `lint`.
+    Lint,
+    /// The command `check`.
+    Check,
+    /// The command `score`.
+    Score,
+    /// The command `rank`.
+    Rank,
+    /// The command `cnf`.
+    Cnf,
+    /// The command `refute`.
+    Refute,
+}
+
+impl Topic {
+    /// The command that the first of these arguments names.
+    pub(crate) fn of(arguments: &[String]) -> Topic {
+        match arguments.first() {
+            Some(word) => Topic::named(word),
+            None => Topic::Program,
+        }
+    }
+
+    fn named(word: &str) -> Topic {
+        match word {
+            LINT => Topic::Lint,
+            CHECK => Topic::Check,
+            SCORE => Topic::Score,
+            RANK => Topic::Rank,
+            CNF => Topic::Cnf,
+            REFUTE => Topic::Refute,
+            _ => Topic::Program,
+        }
+    }
+
+    /// How its words are written.
+    pub(crate) fn usage(self) -> &'static str {
+        match self {
+            Topic::Program => "cudf_check <COMMAND>",
+            Topic::Lint => "cudf_check lint [OPTIONS] <P>",
+            Topic::Check => "cudf_check check [OPTIONS] <P> [S]",
+            Topic::Score => "cudf_check score [OPTIONS] <P> [S]",
+            Topic::Rank => "cudf_check rank [OPTIONS] --criteria=<LIST> <P> <S>...",
+            Topic::Cnf => "cudf_check cnf [OPTIONS] <P>",
+            Topic::Refute => "cudf_check refute [OPTIONS] <P> <PROOF>",
+        }
+    }
+
+    /// The words that print its help.
+    pub(crate) fn help(self) -> &'static str {
+        match self {
+            Topic::Program => "cudf_check --help",
+            Topic::Lint => "cudf_check lint --help",
+            Topic::Check => "cudf_check check --help",
+            Topic::Score => "cudf_check score --help",
+            Topic::Rank => "cudf_check rank --help",
+            Topic::Cnf => "cudf_check cnf --help",
+            Topic::Refute => "cudf_check refute --help",
+        }
+    }
+}
+
+/// A word as messages show it: its control characters as `\u{H}`, by their numbers in hexadecimal.
+#[derive(Clone, Copy)]
+pub(crate) struct Shown<'w>(pub &'w str);
+
+impl fmt::Display for Shown<'_> {
+    fn fmt<W: fmt::Write>(&self, f: &mut fmt::Formatter<W>) -> fmt::Result {
+        for c in self.0.chars() {
+            if c.is_control() {
+                let number = u32::from(c);
+                write!(f, "\\u{{{number:X}}}")?;
+            } else {
+                write!(f, "{c}")?;
+            }
+        }
+        Ok(())
+    }
+}
+
+/// All words as messages show them.
+pub(crate) fn shown_words(alloc: Global, words: &[String]) -> Result<Vec<String>, AllocError> {
+    let mut shown = Vec::new(alloc);
+    for word in words {
+        let word = Shown(word);
+        shown.push(format!(in alloc; "{word}")?)?;
+    }
+    Ok(shown)
 }

@@ -1,6 +1,7 @@
-//! Reads an input to its end, within limits on its bytes and on the calls that it takes.
-ghost use Rattle.std.specs.Prelude.{◌≡◌, ◌≢◌, ◌↔◌, IfOk, IfErr, IfSome, IsErrOf};
-ghost use Rattle.cudf_device.specs.Readers.{change, ReadsAll, IsUnfinished, IsTooLong, StopsInTime};
+//! Reads inputs to their ends, within limits on their bytes and on the calls that they take.
+ghost use Rattle.std.specs.Prelude.{◌≡◌, ◌≢◌, ◌↔◌, IfOk, IfErr, IfSome, IsErrOf, map};
+ghost use Rattle.cudf_device.specs.Readers.{change, ReadsAll, IsUnfinished, IsTooLong, StopsInTime, names_in};
+ghost use Rattle.cudf_device.specs.Promises.InTurn.{ReadsInTurn};
 
 use crate::device::{Source, Trouble};
 use crate::outcome::RunError;
@@ -59,4 +60,24 @@ pub fn read_all<R: Source>(alloc: Global, source: &mut R) -> Result<Vec<u8>, Run
         }
     }
     Err(RunError::Read)
+}
+
+/// The bytes of each source up to its end, in their order.
+///
+/// # Errors
+///
+/// Those of [`read_all`], of the first source whose reading ends in one: the sources after it aren't called. `Memory`
+/// also where memory for the list is refused.
+pub fn read_each<S: Source>(alloc: Global, sources: &mut [S]) -> Result<Vec<Vec<u8>>, RunError>
+    ensures reads { ReadsInTurn S.state sources.old sources.new (λ v. map (λ b. b.items) v.items) result }
+    ensures named { IfOk result (λ _. names_in S.state sources.new ≡ names_in S.state sources.old) }
+{
+    let mut texts = Vec::new(alloc);
+    for source in sources.iter_mut() {
+        let text = read_all(alloc, source)?;
+        if texts.push(text).is_err() {
+            return Err(RunError::Memory);
+        }
+    }
+    Ok(texts)
 }

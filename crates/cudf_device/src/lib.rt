@@ -2,19 +2,12 @@
 //! and what it answers.
 #![tactic(auto)]
 
-mod buffer;
 mod device;
 mod input;
-mod inputs;
-mod named;
 mod outcome;
-mod output;
 mod paper;
 
-pub use buffer::ReportBuffer;
-pub use device::{Device, Sink, Source, Trouble};
-pub use input::read_all;
-pub use inputs::read_each;
-pub use named::Named;
+pub use device::{Device, Named, Sink, Source, Trouble};
+pub use input::{read_all, read_each};
 pub use outcome::{Outcome, RunError};
-pub use paper::Paper;
+pub use paper::{Paper, ReportBuffer};

@@ -1,15 +1,16 @@
-//! The paper on which a report is printed. A failed write doesn't end the printing: it is reported at the end.
-ghost use Rattle.std.specs.Prelude.{◌≡◌, [], decimal};
+//! The paper on which a report is printed, and its buffer. A failed write doesn't end the printing: it is reported at the
+//! end.
+ghost use Rattle.std.specs.Prelude.{◌≡◌, [], decimal, ◌++◌, if◌then◌else◌, IfOk, IsOkUnless};
 ghost use Rattle.cudf_device.specs.Device.{SinkState};
 ghost use Rattle.cudf_device.specs.Outcomes.{Report};
 ghost use Rattle.cudf_device.specs.Promises.Answering.{Answers};
+ghost use Rattle.cudf_device.specs.Working.Writing.{Writes};
 
-use crate::buffer::ReportBuffer;
 use crate::device::Sink;
 use crate::outcome::{Outcome, RunError};
-use crate::output::write_all;
 use itoa::Buffer;
-use std::alloc::AllocError;
+use std::alloc::{AllocError, Global};
+use std::marker::Model;
 
 /// A sink with a buffer, on which texts are printed. After a failed write it takes text and writes no more.
 #[derive(Drop)]
@@ -95,4 +96,80 @@ impl<'w, W: Sink> Paper<'w, W> {
         write_all(out, waiting.bytes())?;
         Ok(outcome)
     }
+}
+
+/// The bytes that may wait.
+const SIZE: usize = 65536;
+
+/// The bytes that wait to be written, at most 65536. Contracts see them as their list. All its memory is taken by `new`,
+/// so printing takes none.
+#[derive(Drop)]
+pub struct ReportBuffer {
+    waiting: Vec<u8>,
+}
+
+impl Model for ReportBuffer {
+    ghost use Rattle.std.specs.Prelude.{ℕ, List, ◌≤◌, vec_len, vec_capacity};
+
+    ghost Value = { List ℕ };
+
+    ghost view = { λ b. b.waiting.items };
+
+    ghost invariant = { λ b. (vec_len b.waiting ≤ 65536) × (65536 ≤ vec_capacity b.waiting) };
+}
+
+impl ReportBuffer {
+    /// An empty buffer.
+    ///
+    /// # Errors
+    ///
+    /// `Memory` where memory for 65536 bytes is refused.
+    pub fn new(alloc: Global) -> Result<ReportBuffer, RunError>
+        ensures empty { IfOk result (λ b. b ≡ []) }
+        ensures only { IsOkUnless result RunError.Memory }
+    {
+        let waiting = Vec::with_capacity(alloc, SIZE)?;
+        Ok(ReportBuffer { waiting })
+    }
+
+    /// Puts `text` after what waits, where there is room for it.
+    #[inline(always)]
+    pub(crate) fn add(&mut self, text: &[u8]) -> bool
+        ensures { self.new ≡ (if result then self.old ++ text.now else self.old) }
+    {
+        if text.len() > SIZE - self.waiting.len() {
+            return false;
+        }
+        self.waiting.extend_from_slice(text).unwrap();
+        true
+    }
+
+    /// All that waits.
+    pub(crate) fn bytes(&self) -> &[u8]
+        ensures { result.now ≡ self.now }
+    {
+        &self.waiting
+    }
+
+    /// Lets go of all that waits.
+    pub(crate) fn clear(&mut self)
+        ensures { self.new ≡ [] }
+    {
+        self.waiting.clear();
+    }
+}
+
+/// Hands all of `bytes` to the sink. A call that takes no byte is a failed write, and no write is
+/// tried again.
+pub(crate) fn write_all<W: Sink>(sink: &mut W, bytes: &[u8]) -> Result<(), RunError>
+    ensures { Writes (W.state sink.old) (W.state sink.new) result bytes.now }
+{
+    let mut rest = bytes;
+    while !rest.is_empty() {
+        match sink.write(rest) {
+            Ok(n) if n > 0 => rest = &rest[n..],
+            _ => return Err(RunError::Write),
+        }
+    }
+    Ok(())
 }

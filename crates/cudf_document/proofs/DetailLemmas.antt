@@ -16,9 +16,9 @@ use Rattle.cudf_value.specs.Declarations.{PlainDeclaration, declaration}
 use Rattle.cudf_value.specs.Parts.{look_up}
 use Rattle.cudf_value.specs.Types.{PlainType}
 use Rattle.cudf_value.specs.Misfits.{type_word}
-use Rattle.cudf_problem.specs.declared.postmark.Postmark.TheVariants.{Package}
-use Rattle.cudf_problem.specs.declared.mode.Mode.TheVariants.{Strict}
-use Rattle.cudf_document.specs.declared.details.found.Passed.{Passed}
+use Rattle.cudf_problem.specs.declared.problem.Postmark.TheVariants.{Package}
+use Rattle.cudf_problem.specs.declared.problem.Mode.TheVariants.{Strict}
+use Rattle.cudf_document.specs.declared.details.Passed.{Passed}
 use Rattle.cudf_document.specs.Details.{PlainDetail, request_on, package_on, undeclared, misdeclared, lacking, misplaced, stanza_on, property_on, words, bad_piece, package_detail, repeated_detail, misdeclared_detail, property_detail, stanza_detail, text_detail, byte_detail, source_detail, fault_detail}
 use Rattle.cudf_problem.specs.Documents.{is_empty, with_earlier, is_request, has_name}
 use Rattle.cudf_problem.specs.Ids.{Id, id_of, is_known}

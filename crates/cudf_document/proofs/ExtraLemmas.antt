@@ -7,13 +7,13 @@ use Rattle.cudf_text.specs.declared.fault.Kind.TheVariants.{E8}
 use Rattle.cudf_text.specs.Stanzas.{PlainProperty, PlainStanza}
 use Rattle.cudf_value.specs.Declarations.{PlainDeclaration}
 use Rattle.cudf_value.specs.Types.{is_one_of}
-use Rattle.cudf_problem.specs.declared.mode.Mode.{Mode}
-use Rattle.cudf_problem.specs.declared.mode.Mode.TheVariants.{Lenient, Strict}
-use Rattle.cudf_problem.specs.declared.postmark.Postmark.{Postmark}
-use Rattle.cudf_problem.specs.declared.postmark.Postmark.TheVariants.{Package}
+use Rattle.cudf_problem.specs.declared.problem.Mode.{Mode}
+use Rattle.cudf_problem.specs.declared.problem.Mode.TheVariants.{Lenient, Strict}
+use Rattle.cudf_problem.specs.declared.problem.Postmark.{Postmark}
+use Rattle.cudf_problem.specs.declared.problem.Postmark.TheVariants.{Package}
 use Rattle.cudf_problem.specs.Documents.{is_empty, marks}
 use Rattle.cudf_problem.specs.Preamble.{reserved_names, declared, declared_names}
-use Rattle.cudf_document.specs.declared.proposed.extras.Extras.{Extras}
+use Rattle.cudf_document.specs.declared.proposed.package.Extras.{Extras}
 use Rattle.cudf_document.specs.Faults.{least, fault_if}
 use Rattle.cudf_document.specs.SolutionFaults.{undeclared_in_solution}
 use Rattle.cudf_document.specs.Working.Enums.{AreWords}

@@ -11,10 +11,10 @@ use Rattle.cudf_text.specs.Stanzas.{PlainProperty, PlainStanza, stanzas_of, plai
 use Rattle.cudf_value.specs.Declarations.{PlainDeclaration}
 use Rattle.cudf_value.specs.Numbers.{positive}
 use Rattle.cudf_value.specs.Parts.{look_up, trimmed}
-use Rattle.cudf_problem.specs.declared.mode.Mode.{Mode}
-use Rattle.cudf_problem.specs.declared.mode.Mode.TheVariants.{Lenient, Strict}
-use Rattle.cudf_problem.specs.declared.postmark.Postmark.{Postmark}
-use Rattle.cudf_problem.specs.declared.postmark.Postmark.TheVariants.{Preamble, Package}
+use Rattle.cudf_problem.specs.declared.problem.Mode.{Mode}
+use Rattle.cudf_problem.specs.declared.problem.Mode.TheVariants.{Lenient, Strict}
+use Rattle.cudf_problem.specs.declared.problem.Postmark.{Postmark}
+use Rattle.cudf_problem.specs.declared.problem.Postmark.TheVariants.{Preamble, Package}
 use Rattle.cudf_problem.specs.Documents.{is_empty, with_earlier, postmark, marks, is_request, has_name, value_of}
 use Rattle.cudf_problem.specs.Ids.{Id, id_of, is_known}
 use Rattle.cudf_problem.specs.Preamble.{declared, declared_by, declared_after}

@@ -2,8 +2,8 @@
 use Rattle.std.proofs.Common.{◌≡◌, Bool, List, ◌++◌, Option, None, Some, is_none, unwrap_or, refl, ap, ◌∙◌, option_map}
 use Rattle.cudf_text.specs.declared.fault.Kind.TheVariants.{E11, E12}
 use Rattle.cudf_text.specs.Stanzas.{PlainProperty, PlainStanza}
-use Rattle.cudf_document.specs.declared.package.identity.Identity.{Identity}
-use Rattle.cudf_problem.specs.declared.postmark.Postmark.TheVariants.{Package}
+use Rattle.cudf_document.specs.declared.package.Identity.{Identity}
+use Rattle.cudf_problem.specs.declared.problem.Postmark.TheVariants.{Package}
 use Rattle.cudf_document.specs.Faults.{fault_if}
 use Rattle.std.specs.Option.{option_zip}
 use Rattle.cudf_document.specs.Working.Judging.{id_under, line_of, version_property}

@@ -3,11 +3,11 @@ use Rattle.std.proofs.Common.{◌≡◌, ℕ, Bool, false, List, [], ◌∷◌, 
 use Rattle.std.specs.List.{flat_map}
 use Rattle.cudf_text.specs.declared.fault.Kind.TheVariants.{E16}
 use Rattle.cudf_text.specs.Stanzas.{PlainProperty}
-use Rattle.cudf_problem.specs.declared.mode.Mode.{Mode}
-use Rattle.cudf_problem.specs.declared.mode.Mode.TheVariants.{Lenient, Strict}
-use Rattle.cudf_problem.specs.declared.postmark.Postmark.TheVariants.{Package}
-use Rattle.cudf_document.specs.declared.misplaced.Document.{Document}
-use Rattle.cudf_document.specs.declared.misplaced.Document.TheVariants.{Problem, Solution}
+use Rattle.cudf_problem.specs.declared.problem.Mode.{Mode}
+use Rattle.cudf_problem.specs.declared.problem.Mode.TheVariants.{Lenient, Strict}
+use Rattle.cudf_problem.specs.declared.problem.Postmark.TheVariants.{Package}
+use Rattle.cudf_document.specs.declared.names.Document.{Document}
+use Rattle.cudf_document.specs.declared.names.Document.TheVariants.{Problem, Solution}
 use Rattle.cudf_document.specs.Faults.{least, fault_if}
 use Rattle.cudf_document.specs.ProblemFaults.{misplaced_faults}
 use Rattle.cudf_document.specs.Working.Misplaced.{misplaces}

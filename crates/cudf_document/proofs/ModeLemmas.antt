@@ -7,9 +7,9 @@ use Rattle.cudf_text.specs.declared.fault.Kind.{Kind}
 use Rattle.cudf_text.specs.declared.fault.Kind.TheVariants.{E4, E5, E6, E7, E8, E9, E10, E11, E12, E13, E14, E15, E16}
 use Rattle.cudf_text.specs.Stanzas.{PlainProperty, PlainStanza, PlainText}
 use Rattle.cudf_value.specs.Declarations.{PlainDeclaration}
-use Rattle.cudf_problem.specs.declared.mode.Mode.TheVariants.{Lenient, Strict}
-use Rattle.cudf_problem.specs.declared.postmark.Postmark.{Postmark}
-use Rattle.cudf_problem.specs.declared.postmark.Postmark.TheVariants.{Preamble, Package}
+use Rattle.cudf_problem.specs.declared.problem.Mode.TheVariants.{Lenient, Strict}
+use Rattle.cudf_problem.specs.declared.problem.Postmark.{Postmark}
+use Rattle.cudf_problem.specs.declared.problem.Postmark.TheVariants.{Preamble, Package}
 use Rattle.cudf_document.specs.Faults.{fault_if}
 use Rattle.cudf_problem.specs.Documents.{is_empty, with_earlier, postmark, marks, is_request}
 use Rattle.cudf_document.specs.Working.Judging.{same_name, is_mistyped, faults_or, properties_faults, line_of, lacks_one, version_property}

@@ -6,7 +6,7 @@ use Rattle.cudf_text.specs.Stanzas.{PlainProperty}
 use Rattle.cudf_text.specs.Chars.{trim}
 use Rattle.cudf_value.specs.Types.{can_be, PlainType, word_type, enum_type, is_of_type}
 use Rattle.cudf_value.specs.Declarations.{PlainDeclaration}
-use Rattle.cudf_problem.specs.declared.postmark.Postmark.TheVariants.{Package as PackageMark}
+use Rattle.cudf_problem.specs.declared.problem.Postmark.TheVariants.{Package as PackageMark}
 use Rattle.cudf_document.specs.Faults.{least}
 use Rattle.cudf_problem.specs.Documents.{value_of}
 use Rattle.cudf_document.specs.Working.Judging.{same_name}

@@ -6,9 +6,9 @@ use Rattle.std.specs.List.{cons_option}
 use Rattle.cudf_text.specs.declared.fault.Fault.{Fault}
 use Rattle.cudf_text.specs.declared.fault.Kind.TheVariants.{E15}
 use Rattle.cudf_text.specs.Stanzas.{PlainStanza}
-use Rattle.cudf_problem.specs.declared.mode.Mode.{Mode}
-use Rattle.cudf_problem.specs.declared.mode.Mode.TheVariants.{Lenient, Strict}
-use Rattle.cudf_document.specs.declared.proposed.pairs.Pairs.{Pairs}
+use Rattle.cudf_problem.specs.declared.problem.Mode.{Mode}
+use Rattle.cudf_problem.specs.declared.problem.Mode.TheVariants.{Lenient, Strict}
+use Rattle.cudf_document.specs.declared.proposed.Pairs.{Pairs}
 use Rattle.cudf_document.specs.Faults.{lesser, least, fault_if}
 use Rattle.cudf_problem.specs.Ids.{Id, is_id, is_among, is_known, id_of}
 use Rattle.cudf_problem.specs.Promises.Packages.{with_id}

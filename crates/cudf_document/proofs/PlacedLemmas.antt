@@ -13,7 +13,7 @@ use Rattle.std.specs.List.{list_any, prefix_len, enumerate_from, cons_option}
 use Rattle.std.specs.Option.{option_map_or}
 use Rattle.cudf_text.specs.Stanzas.{PlainStanza}
 use Rattle.cudf_problem.specs.declared.solution.Solution.{Solution}
-use Rattle.cudf_document.specs.declared.solution.placed.Placed.{Placed}
+use Rattle.cudf_document.specs.declared.solution.Placed.{Placed}
 use Rattle.cudf_problem.specs.Ids.{Id, is_id, is_among}
 use Rattle.cudf_problem.specs.Promises.Packages.{are_distinct}
 use Rattle.cudf_problem.specs.Promises.Statuses.{are_outside, installed_with, installed_of, installed_stanzas}

@@ -6,7 +6,7 @@ use Rattle.cudf_text.specs.declared.fault.Fault.{Fault}
 use Rattle.cudf_text.specs.declared.fault.Kind.TheVariants.{E7, E10}
 use Rattle.cudf_text.specs.Stanzas.{PlainProperty}
 use Rattle.cudf_value.specs.Declarations.{PlainDeclaration}
-use Rattle.cudf_problem.specs.declared.postmark.Postmark.TheVariants.{Preamble as PreambleMark}
+use Rattle.cudf_problem.specs.declared.problem.Postmark.TheVariants.{Preamble as PreambleMark}
 use Rattle.cudf_document.specs.Faults.{lesser}
 use Rattle.cudf_problem.specs.Documents.{has_name}
 use Rattle.cudf_document.specs.Working.Judging.{same_name, added_by}

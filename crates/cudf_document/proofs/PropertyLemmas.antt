@@ -7,7 +7,7 @@ use Rattle.cudf_text.specs.Stanzas.{PlainProperty}
 use Rattle.cudf_text.specs.Chars.{trim}
 use Rattle.cudf_value.specs.Types.{PlainType, is_of_type}
 use Rattle.cudf_value.specs.Declarations.{PlainDeclaration}
-use Rattle.cudf_problem.specs.declared.postmark.Postmark.{Postmark}
+use Rattle.cudf_problem.specs.declared.problem.Postmark.{Postmark}
 use Rattle.cudf_problem.specs.Documents.{with_earlier}
 use Rattle.cudf_document.specs.ProblemFaults.{property_faults}
 use Rattle.cudf_document.specs.Working.SeenNames.{AreNames}

@@ -5,8 +5,8 @@ use Rattle.std.proofs.lemmas.List.Elements.{filter_map-append}
 use Rattle.std.specs.List.{flat_map, enumerate_from, cons_option}
 use Rattle.cudf_text.specs.declared.fault.Fault.{Fault}
 use Rattle.cudf_text.specs.Stanzas.{PlainStanza, PlainText}
-use Rattle.cudf_problem.specs.declared.mode.Mode.{Mode}
-use Rattle.cudf_document.specs.declared.proposed.reader.Reader.{Reader}
+use Rattle.cudf_problem.specs.declared.problem.Mode.{Mode}
+use Rattle.cudf_document.specs.declared.proposed.Reader.{Reader}
 use Rattle.cudf_document.specs.Faults.{lesser, least}
 use Rattle.cudf_problem.specs.Ids.{Id}
 use Rattle.cudf_problem.specs.Promises.Statuses.{installed_with, installed_of, installed_stanzas}

@@ -3,7 +3,7 @@ use Rattle.std.proofs.Common.{◌≡◌, ℕ, Bool, true, false, List, [], ◌�
 use Rattle.std.specs.List.{list_any}
 use Rattle.cudf_text.specs.declared.fault.Kind.TheVariants.{E7, E9}
 use Rattle.cudf_text.specs.Stanzas.{PlainProperty}
-use Rattle.cudf_problem.specs.declared.postmark.Postmark.TheVariants.{Request as RequestMark}
+use Rattle.cudf_problem.specs.declared.problem.Postmark.TheVariants.{Request as RequestMark}
 use Rattle.cudf_document.specs.Faults.{least}
 use Rattle.cudf_problem.specs.Documents.{value_of}
 use Rattle.cudf_document.specs.Working.Judging.{same_name, fails, is_mistyped}

@@ -6,7 +6,7 @@ use Rattle.cudf_value.specs.Parts.{some_if, look_up}
 use Rattle.cudf_value.specs.Words.{is_pkgname}
 use Rattle.cudf_value.specs.Types.{PlainType, can_be, word_type, enum_type, is_one_of, is_of_type}
 use Rattle.cudf_value.specs.Declarations.{PlainDeclaration}
-use Rattle.cudf_problem.specs.declared.postmark.Postmark.TheVariants.{Package as PackageMark}
+use Rattle.cudf_problem.specs.declared.problem.Postmark.TheVariants.{Package as PackageMark}
 use Rattle.cudf_problem.specs.Values.{name_value, keep_words, keep_value}
 use Rattle.cudf_document.specs.ProblemFaults.{types_in}
 use Rattle.cudf_document.specs.SolutionFaults.{solution_types}

@@ -6,11 +6,11 @@ use Rattle.std.proofs.Math.Bool.{or-false, or_comm}
 use Rattle.std.proofs.lemmas.List.Folds.{list_any-append}
 use Rattle.cudf_text.specs.declared.fault.Fault.{Fault}
 use Rattle.cudf_text.specs.Stanzas.{PlainStanza, PlainText}
-use Rattle.cudf_problem.specs.declared.mode.Mode.{Mode}
-use Rattle.cudf_problem.specs.declared.mode.Mode.TheVariants.{Lenient, Strict}
+use Rattle.cudf_problem.specs.declared.problem.Mode.{Mode}
+use Rattle.cudf_problem.specs.declared.problem.Mode.TheVariants.{Lenient, Strict}
 use Rattle.cudf_document.specs.declared.problem.walk.Walk.{Walk}
-use Rattle.cudf_problem.specs.declared.postmark.Postmark.{Postmark}
-use Rattle.cudf_problem.specs.declared.postmark.Postmark.TheVariants.{Preamble, Package, Request}
+use Rattle.cudf_problem.specs.declared.problem.Postmark.{Postmark}
+use Rattle.cudf_problem.specs.declared.problem.Postmark.TheVariants.{Preamble, Package, Request}
 use Rattle.cudf_document.specs.Faults.{lesser, least, fault_if}
 use Rattle.cudf_text.specs.declared.fault.Kind.TheVariants.{E13}
 use Rattle.std.proofs.lemmas.List.{append_assoc, append-nil}

@@ -14,8 +14,8 @@ use Rattle.cudf_value.specs.Parts.{look_up, parts}
 use Rattle.cudf_value.specs.Misfits.{type_word, misfit}
 use Rattle.cudf_value.specs.Spots.{pieces}
 use Rattle.cudf_value.specs.Declarations.{PlainDeclaration, declaration}
-use Rattle.cudf_problem.specs.declared.mode.Mode.TheVariants.{Strict}
-use Rattle.cudf_problem.specs.declared.postmark.Postmark.{Postmark}
+use Rattle.cudf_problem.specs.declared.problem.Mode.TheVariants.{Strict}
+use Rattle.cudf_problem.specs.declared.problem.Postmark.{Postmark}
 use Rattle.cudf_problem.specs.Documents.{with_earlier, postmark, is_request, has_name}
 use Rattle.cudf_problem.specs.Ids.{Id, id_of, is_known}
 use Rattle.cudf_problem.specs.Preamble.{is_declarable, declared_after, declared}

@@ -1,24 +1,28 @@
-//! The extra package properties that a document declares.
-ghost use Rattle.std.specs.Prelude.{◌≡◌, false, not, ◌&&◌, ◌||◌, [], ◌∷◌, ◌++◌, map, take, length, filter_map, find, is_some, option_map, option_to_list, unwrap_or, bytes_eq, IfOk, OnOk, IsTrue, if◌then◌else◌};
+//! The extra package properties that a document declares: its preamble, the names that each package has to have, and
+//! the look-up of an enum's idents.
+ghost use Rattle.indexmap.specs.IndexSet.{insert_key};
+ghost use Rattle.std.specs.Prelude.{◌≡◌, false, not, ◌&&◌, ◌||◌, [], ◌∷◌, ◌++◌, map, take, length, filter_map, find, is_some, option_map, option_to_list, unwrap_or, bytes_eq, IfOk, OnOk, IsTrue, if◌then◌else◌, Some, None};
 ghost use Rattle.std.specs.List.{list_any};
+ghost use Rattle.cudf_text.specs.Promises.Views.{property_view, stanza_view};
 ghost use Rattle.cudf_value.specs.Promises.Views.{formula_view};
 ghost use Rattle.cudf_value.specs.Promises.Types.{type_view, declaration_view};
-ghost use Rattle.cudf_document.specs.Working.Tests.{declared_test};
 ghost use Rattle.cudf_value.specs.Parts.{look_up};
+ghost use Rattle.cudf_problem.specs.Preamble.{reserved_names, is_declarable, declared_by, recommends_in, recommends_default, declared, declared_after};
+ghost use Rattle.cudf_problem.specs.declared.problem.Postmark.TheVariants.{Preamble as PreambleMark};
+ghost use Rattle.cudf_document.specs.Working.Tests.{declared_test};
 ghost use Rattle.cudf_document.specs.ProblemFaults.{required_names};
-ghost use Rattle.cudf_document.specs.Working.Judging.{name_without_default, all_declarable, is_declared};
-ghost use Rattle.cudf_problem.specs.Preamble.{reserved_names, is_declarable, declared_by, recommends_in, recommends_default};
-ghost use Rattle.cudf_document.specs.Working.PackageFields.{wrong_kind};
+ghost use Rattle.cudf_document.specs.Working.Judging.{name_without_default, all_declarable, is_declared, properties_faults, added_by};
+ghost use Rattle.cudf_document.specs.Working.PackageFields.{wrong_kind, fault_on};
+ghost use Rattle.cudf_document.specs.Working.Enums.{AreIdents, AreWords};
+ghost use Rattle.cudf_document.specs.Faults.{least};
+ghost use Rattle.cudf_document.specs.Working.ProblemBuilders.{preamble_kind_after};
+ghost use Rattle.cudf_document.specs.Working.Walks.{texts};
 
-pub(crate) mod declared;
-pub(crate) mod preamble;
-pub(crate) mod required;
-
-use crate::declarations::declared::Declared;
-use crate::fault::mistyped_unless;
+use crate::fault::{lesser, mistyped_unless};
+use crate::names::{SeenNames, is_preamble};
 use cudf_problem::Mode;
-use cudf_text::Kind;
-use cudf_value::{Declaration, Formula, ValueType, read_declarations};
+use cudf_text::{Fault, Kind, PropertyRef, StanzaRef, trim};
+use cudf_value::{Declaration, Formula, ValueType, is_of_type, read_declarations, read_formula};
 use indexmap::IndexMap;
 use std::alloc::{AllocError, Global};
 use std::marker::Model;
@@ -295,4 +299,244 @@ pub(crate) fn is_reserved(name: &str) -> bool
             | "preamble"
             | "request"
     )
+}
+
+/// A declaration.
+#[derive(Drop)]
+pub(crate) struct Declared<'t> {
+    declaration: Declaration<'t>,
+    /// The idents of an enum, so that a value isn't compared with each.
+    idents: SeenNames<'t>,
+}
+
+impl<'t> Model for Declared<'t> {
+    ghost use Rattle.cudf_value.specs.Promises.Types.{type_view, declaration_view};
+    ghost use Rattle.cudf_value.specs.Declarations.{PlainDeclaration};
+    ghost use Rattle.cudf_document.specs.Working.Enums.{AreIdents};
+
+    ghost Value = { PlainDeclaration };
+
+    ghost view = { λ d. declaration_view d.declaration };
+
+    ghost invariant = { λ d. AreIdents (type_view d.declaration.kind) d.idents };
+}
+
+impl<'t> Declared<'t> {
+    ghost use Rattle.std.specs.Prelude.{◌≡◌, is_some, option_and_then, option_map, IfOk};
+    ghost use Rattle.cudf_text.specs.Chars.{trim};
+    ghost use Rattle.cudf_value.specs.Types.{is_of_type};
+    ghost use Rattle.cudf_value.specs.Promises.Views.{formula_view};
+    ghost use Rattle.cudf_value.specs.Promises.Types.{type_view, declaration_view};
+    ghost use Rattle.cudf_problem.specs.Preamble.{is_formula_type};
+    ghost use Rattle.cudf_document.specs.Working.Reads.{formula_value};
+
+    pub(crate) fn new(alloc: Global, declaration: Declaration<'t>) -> Result<Self, AllocError>
+        ensures { IfOk result (λ d. d ≡ declaration_view declaration.entry) }
+    {
+        let idents = idents_of(alloc, &declaration.kind)?;
+        Ok(Declared {
+            declaration,
+            idents,
+        })
+    }
+
+    pub(crate) fn name(&self) -> &'t str
+        ensures { result.now ≡ self.now.name }
+    {
+        self.declaration.name
+    }
+
+    /// The declared type.
+    pub(crate) fn kind(&self) -> &ValueType<'t>
+        ensures { type_view result.now ≡ self.now.kind }
+    {
+        &self.declaration.kind
+    }
+
+    pub(crate) fn has_default(&self) -> bool
+        ensures { result ≡ is_some self.now.default }
+    {
+        self.declaration.has_default()
+    }
+
+    /// Whether the text, but for blanks round it, is of the declared type.
+    pub(crate) fn fits(&self, text: &str) -> bool
+        ensures { result ≡ is_of_type self.now.kind (trim text.now) }
+    {
+        match &self.declaration.kind {
+            ValueType::Choice(_) => self.idents.contains(trim(text)),
+            kind => is_of_type(kind, trim(text)),
+        }
+    }
+
+    /// Whether the type is `vpkgformula`.
+    pub(crate) fn is_formula(&self) -> bool
+        ensures { result ≡ is_formula_type self.now.kind }
+    {
+        matches!(&self.declaration.kind, ValueType::Formula)
+    }
+
+    /// The default, where it is of type `vpkgformula`, whatever the declared type.
+    pub(crate) fn default_formula(&self) -> Option<Formula<'t>>
+        ensures { option_map formula_view result ≡ option_and_then formula_value self.now.default }
+    {
+        match self.declaration.default {
+            Some(text) => read_formula(text),
+            None => None,
+        }
+    }
+}
+
+/// The idents of an enum, and of another type none.
+fn idents_of<'t>(alloc: Global, kind: &ValueType<'t>) -> Result<SeenNames<'t>, AllocError>
+    ensures { IfOk result (AreIdents (type_view kind.now)) }
+{
+    match kind {
+        ValueType::Choice(idents) => names_of(alloc, idents),
+        _ => Ok(SeenNames::new(alloc)),
+    }
+}
+
+/// These names, to be looked up.
+pub(crate) fn names_of<'t>(alloc: Global, words: &[&'t str]) -> Result<SeenNames<'t>, AllocError>
+    ensures { IfOk result (AreWords words.now) }
+{
+    let mut names = SeenNames::new(alloc);
+    for word in words {
+        names.insert(word)?;
+    }
+    Ok(names)
+}
+
+/// The first fault of a preamble's properties; what they declare takes the place of what was
+/// declared before.
+pub(crate) fn read_preamble<'t>(
+    alloc: Global,
+    names: &mut SeenNames<'t>,
+    declarations: &mut Declarations<'t>,
+    stanza: &StanzaRef<'t>,
+) -> Result<Option<Fault>, AllocError>
+    ensures fault { IfOk result (λ fault.
+        fault ≡ least (properties_faults [] (Some PreambleMark) (stanza_view stanza.now).properties)) }
+    ensures declared { OnOk result (declarations.new
+        ≡ declared_after [] (stanza_view stanza.now).properties) }
+{
+    names.clear(alloc);
+    declarations.clear();
+    let mut first = None;
+    for property in &stanza.properties {
+        let fault = read_property(alloc, names, declarations, property)?;
+        first = lesser(first, fault);
+    }
+    Ok(first)
+}
+
+/// Adds what a property declares, and answers its fault.
+fn read_property<'t>(
+    alloc: Global,
+    names: &mut SeenNames<'t>,
+    declarations: &mut Declarations<'t>,
+    property: &PropertyRef<'t>,
+) -> Result<Option<Fault>, AllocError>
+    ensures fault { IfOk result (λ fault.
+        fault
+        ≡ fault_on property.now.line (preamble_kind_after declarations.old names.old (property_view property.now))) }
+    ensures names { OnOk result (names.new ≡ insert_key bytes_eq names.old property.now.name.now) }
+    ensures declared { OnOk result (declarations.new
+        ≡ declarations.old ++ added_by declarations.old (property_view property.now)) }
+{
+    let is_new = names.insert(property.name)?;
+    if property.name == "property" {
+        let is_good = declarations.add(alloc, property.value)?;
+        Ok(fault_unless(is_good, property.line, Kind::E10))
+    } else {
+        Ok(fault_unless(is_new, property.line, Kind::E7))
+    }
+}
+
+/// A fault of this kind on this line, unless all is well.
+fn fault_unless(is_well: bool, line: u64, kind: Kind) -> Option<Fault>
+    ensures { result ≡ fault_on line (if is_well then None else Some kind) }
+{
+    if is_well {
+        None
+    } else {
+        Some(Fault { line, kind })
+    }
+}
+
+/// Declares what a document does whose first stanza this is, in place of what was declared before.
+pub(crate) fn declare_first<'t>(
+    alloc: Global,
+    declarations: &mut Declarations<'t>,
+    stanza: &StanzaRef<'t>,
+) -> Result<(), AllocError>
+    ensures { OnOk result (declarations.new ≡ declared (stanza_view stanza.now ∷ [])) }
+{
+    declarations.clear();
+    if is_preamble(stanza) {
+        declare_all(alloc, declarations, &stanza.properties)?;
+    }
+    Ok(())
+}
+
+/// Adds what these properties of a preamble declare, each in its turn; a bad declaration adds nothing.
+fn declare_all<'t>(
+    alloc: Global,
+    declarations: &mut Declarations<'t>,
+    properties: &[PropertyRef<'t>],
+) -> Result<(), AllocError>
+    ensures { OnOk result (declarations.new
+        ≡ declared_after declarations.old (map property_view properties.now)) }
+{
+    for property in properties {
+        declare(alloc, declarations, property)?;
+    }
+    Ok(())
+}
+
+/// Adds what a property of a preamble declares.
+pub(crate) fn declare<'t>(
+    alloc: Global,
+    declarations: &mut Declarations<'t>,
+    property: &PropertyRef<'t>,
+) -> Result<(), AllocError>
+    ensures { OnOk result (declarations.new
+        ≡ declarations.old ++ added_by declarations.old (property_view property.now)) }
+{
+    if property.name == "property" {
+        declarations.add(alloc, property.value)?;
+    }
+    Ok(())
+}
+
+/// Takes the names that these declarations require, once the first stanza has declared them.
+pub(crate) fn require<'t>(
+    alloc: Global,
+    required: &mut Vec<&'t str>,
+    is_first: bool,
+    declarations: &Declarations<'t>,
+    mode: Mode,
+) -> Result<(), AllocError>
+    ensures first { IsTrue is_first → OnOk result (texts required.new.items ≡ required_names mode declarations.now) }
+    ensures later { IsTrue (not is_first) → OnOk result (required.new ≡ required.old) }
+{
+    if !is_first {
+        return Ok(());
+    }
+    *required = declarations.required(alloc, mode)?;
+    Ok(())
+}
+
+/// Whether one of these names isn't among those of a stanza. (As the names differ, it looks at most at one more than
+/// the stanza has.)
+pub(crate) fn lacks_one(required: &[&str], seen: &SeenNames<'_>) -> bool
+    ensures { result ≡ list_any (λ name. not (list_any (bytes_eq name.now) seen.now)) required.now }
+{
+    for name in required {
+        if !seen.contains(name) {
+            return true;
+        }
+    }
+    false
 }

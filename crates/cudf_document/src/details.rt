@@ -1,13 +1,21 @@
-//! What a document says beside its first fault.
+//! What a document says beside its first fault, and the stanza that the fault is in.
+ghost use Rattle.std.specs.Prelude.{◌≡◌, ◌==◌, find, option_map, option_and_then, IfOk, Some, None, if◌then◌else◌};
+ghost use Rattle.cudf_text.specs.Promises.Views.{property_view, stanza_view};
+ghost use Rattle.cudf_problem.specs.Documents.{has_name, is_request};
+ghost use Rattle.cudf_document.specs.Details.{request_on, name_on, undeclared, misplaced, first_detail, repeated_detail};
+ghost use Rattle.cudf_document.specs.Promises.Views.{detail_view};
+ghost use Rattle.cudf_document.specs.Working.Details.{property_at, found_detail, found_view, nothing_passed, found_in};
 
-pub(crate) mod found;
 pub(crate) mod invalid;
-pub(crate) mod lacking;
-pub(crate) mod misdeclared;
 pub(crate) mod mistyped;
 pub(crate) mod of_fault;
-pub(crate) mod of_stanza;
-pub(crate) mod pair;
+
+use crate::declarations::{Declarations, declare_first};
+use crate::details::mistyped::{lacking, misdeclared, mistyped};
+use crate::names::{first_named, postmark_of};
+use cudf_problem::Postmark;
+use cudf_text::{Fault, Kind, Next, PropertyRef, StanzaRef, Stanzas};
+use std::alloc::{AllocError, Global};
 
 /// What a document says beside its first fault (own). Lines count from 1 in the text that the fault is of.
 #[derive(Clone, Copy, Debug)]
@@ -87,4 +95,199 @@ pub enum Format {
     Zstandard,
     /// FF FE or FE FF, a byte order mark.
     Utf16,
+}
+
+/// What is reported of a fault in this stanza.
+pub(crate) fn told<'t>(
+    alloc: Global,
+    found: &Found<'t>,
+    fault: Fault,
+) -> Result<Option<Detail<'t>>, AllocError>
+    ensures { IfOk result (λ d.
+        option_map detail_view d ≡ found_detail fault.kind fault.line (found_view found.now)) }
+{
+    let stanza = &found.stanza;
+    match fault.kind {
+        Kind::E4 => Ok(first(stanza)),
+        Kind::E6 => Ok(request(found.passed.request)),
+        Kind::E7 => Ok(repeated(stanza, fault.line)),
+        Kind::E8 => Ok(undeclared(stanza, fault.line)),
+        Kind::E9 => Ok(mistyped(alloc, &found.passed.declarations, stanza, fault.line)),
+        Kind::E10 => misdeclared(alloc, stanza, fault.line),
+        Kind::E14 => lacking(alloc, &found.passed.declarations, stanza),
+        Kind::E16 => Ok(misplaced(stanza, fault.line)),
+        _ => Ok(None),
+    }
+}
+
+/// The first property.
+fn first<'t>(stanza: &StanzaRef<'t>) -> Option<Detail<'t>>
+    ensures { option_map detail_view result ≡ first_detail (stanza_view stanza.now) }
+{
+    match stanza.properties.as_slice() {
+        [first, ..] => Some(Detail::BeginsWith { name: first.name }),
+        [] => None,
+    }
+}
+
+/// The request, by its line.
+fn request<'t>(line: Option<u64>) -> Option<Detail<'t>>
+    ensures { option_map detail_view result ≡ option_map request_on line }
+{
+    line.map(|line| Detail::RequestOn { line })
+}
+
+/// The first property with the name of the one on a line.
+fn repeated<'t>(stanza: &StanzaRef<'t>, line: u64) -> Option<Detail<'t>>
+    ensures { option_map detail_view result
+        ≡ option_and_then (repeated_detail (stanza_view stanza.now)) (property_at line (stanza_view stanza.now)) }
+{
+    match property_on(stanza, line) {
+        Some(property) => first_of_name(stanza, property.name),
+        None => None,
+    }
+}
+
+/// The first property of this name.
+fn first_of_name<'t>(stanza: &StanzaRef<'t>, name: &'t str) -> Option<Detail<'t>>
+    ensures { option_map detail_view result
+        ≡ option_map (λ first. name_on name.now first.line) (find (has_name name.now) (stanza_view stanza.now).properties) }
+{
+    match first_named(stanza, name) {
+        Some(first) => Some(Detail::NameOn {
+            name,
+            line: first.line,
+        }),
+        None => None,
+    }
+}
+
+/// The name of the property on a line.
+fn undeclared<'t>(stanza: &StanzaRef<'t>, line: u64) -> Option<Detail<'t>>
+    ensures { option_map detail_view result
+        ≡ option_map (λ q. undeclared q.name) (property_at line (stanza_view stanza.now)) }
+{
+    match property_on(stanza, line) {
+        Some(property) => Some(Detail::Undeclared {
+            name: property.name,
+        }),
+        None => None,
+    }
+}
+
+/// The same, of a name that has no meaning there.
+fn misplaced<'t>(stanza: &StanzaRef<'t>, line: u64) -> Option<Detail<'t>>
+    ensures { option_map detail_view result
+        ≡ option_map (λ q. misplaced q.name) (property_at line (stanza_view stanza.now)) }
+{
+    match property_on(stanza, line) {
+        Some(property) => Some(Detail::Misplaced {
+            name: property.name,
+        }),
+        None => None,
+    }
+}
+
+/// The property on a line.
+pub(crate) fn property_on<'s, 't>(
+    stanza: &'s StanzaRef<'t>,
+    line: u64,
+) -> Option<&'s PropertyRef<'t>>
+    ensures { option_map (λ p. property_view p.now) result ≡ property_at line (stanza_view stanza.now) }
+{
+    find_line(&stanza.properties, line)
+}
+
+fn find_line<'s, 't>(properties: &'s [PropertyRef<'t>], line: u64) -> Option<&'s PropertyRef<'t>>
+    ensures { option_map (λ p. p.now) result ≡ find (λ p. p.line == line) properties.now }
+{
+    properties.iter().find(|p| p.line == line)
+}
+
+/// What was passed on the way to a stanza.
+#[derive(Drop)]
+pub(crate) struct Passed<'t> {
+    /// Whether nothing was: the next stanza is the first.
+    pub(crate) is_first: bool,
+    /// The line of the first request.
+    pub(crate) request: Option<u64>,
+    /// What the first stanza declares.
+    pub(crate) declarations: Declarations<'t>,
+}
+
+impl<'t> Passed<'t> {
+    ghost use Rattle.std.specs.Prelude.{◌≡◌, OnOk};
+    ghost use Rattle.cudf_text.specs.Promises.Views.{stanza_view};
+    ghost use Rattle.cudf_document.specs.Working.Details.{nothing_passed, passed_with};
+
+    fn new(alloc: Global) -> Self
+        ensures { result ≡ nothing_passed }
+    {
+        Passed {
+            is_first: true,
+            request: None,
+            declarations: Declarations::new(alloc),
+        }
+    }
+
+    /// Passes one stanza more.
+    fn take(&mut self, alloc: Global, stanza: &StanzaRef<'t>) -> Result<(), AllocError>
+        ensures { OnOk result (self.new ≡ passed_with self.old (stanza_view stanza.now)) }
+    {
+        if self.is_first {
+            declare_first(alloc, &mut self.declarations, stanza)?;
+        }
+        self.is_first = false;
+        self.request = self.request.or(request_line(stanza));
+        Ok(())
+    }
+}
+
+/// The line of a request.
+fn request_line(stanza: &StanzaRef<'_>) -> Option<u64>
+    ensures { result
+        ≡ (if is_request (stanza_view stanza.now) then Some (stanza_view stanza.now).line else None) }
+{
+    match postmark_of(stanza) {
+        Some(Postmark::Request) => Some(stanza.line),
+        _ => None,
+    }
+}
+
+/// A stanza, after what was passed before it.
+#[derive(Drop)]
+pub(crate) struct Found<'t> {
+    pub(crate) passed: Passed<'t>,
+    pub(crate) stanza: StanzaRef<'t>,
+}
+
+/// The stanza of a line: the first that doesn't end before it.
+pub(crate) fn find_stanza<'t>(
+    alloc: Global,
+    stanzas: Stanzas<'t>,
+    line: u64,
+) -> Result<Option<Found<'t>>, AllocError>
+    ensures { IfOk result (λ found.
+        option_map found_view found ≡ found_in nothing_passed line stanzas.entry.stanzas) }
+{
+    let mut stanzas = stanzas;
+    let mut passed = Passed::new(alloc);
+    let mut stanza = StanzaRef {
+        line: 0,
+        last: 0,
+        properties: Vec::new(alloc),
+    };
+    'stanzas: loop {
+        match stanzas.next(alloc, &mut stanza.properties)? {
+            Next::Stanza { line: first, last } => {
+                stanza.line = first;
+                stanza.last = last;
+                if line <= last {
+                    return Ok(Some(Found { passed, stanza }));
+                }
+                passed.take(alloc, &stanza)?;
+            }
+            Next::End { .. } => return Ok(None),
+        }
+    }
 }

@@ -1,9 +1,13 @@
-//! Faults, alone and compared.
+//! Faults, alone and compared, and why a document isn't read.
 ghost use Rattle.std.specs.Prelude.{◌≡◌, Some, None, if◌then◌else◌};
 ghost use Rattle.cudf_document.specs.Faults.{lesser, least, fault_if};
 ghost use Rattle.cudf_document.specs.Working.PackageFields.{fault_on};
+ghost use Rattle.cudf_document.specs.declared.fault.ReadError.TheVariants.{Memory};
 
 use cudf_text::{Fault, Kind};
+use std::alloc::AllocError;
+use std::error::Error;
+use std::fmt;
 
 /// The one that is on the earlier line, or on one line of the lesser kind.
 pub(crate) fn lesser(one: Option<Fault>, other: Option<Fault>) -> Option<Fault>
@@ -49,4 +53,38 @@ pub(crate) fn mistyped_unless(fits: bool) -> Option<Kind>
     ensures { result ≡ (if fits then None else Some Kind.E9) }
 {
     if fits { None } else { Some(Kind::E9) }
+}
+
+/// Why a document has no value.
+#[derive(Clone, Copy, Debug)]
+pub enum ReadError {
+    /// The document's first fault: by line, then by kind.
+    Fault(Fault),
+    /// A growth was refused.
+    Memory(AllocError),
+}
+
+/// As `line 12: E13 no request`, or `out of memory`.
+impl fmt::Display for ReadError {
+    ghost use Rattle.std.specs.Prelude.{Some};
+    ghost use Rattle.cudf_document.specs.Promises.Errors.{error_text};
+
+    ghost output = { λ error. Some (error_text error) };
+
+    fn fmt<W: fmt::Write>(&self, f: &mut fmt::Formatter<W>) -> fmt::Result {
+        match self {
+            ReadError::Fault(fault) => write!(f, "{fault}"),
+            ReadError::Memory(_) => write!(f, "out of memory"),
+        }
+    }
+}
+
+impl Error for ReadError {}
+
+impl From<AllocError> for ReadError {
+    ghost from_gives = { λ error result. result ≡ Memory error };
+
+    fn from(error: AllocError) -> ReadError {
+        ReadError::Memory(error)
+    }
 }

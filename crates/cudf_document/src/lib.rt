@@ -2,30 +2,22 @@
 //! document that has one.
 #![tactic(auto)]
 
-mod declarations;
-mod details;
-mod error;
+pub(crate) mod declarations;
+pub(crate) mod details;
 mod fault;
 pub mod laws;
-mod misplaced;
 mod names;
-mod package;
-mod postmark;
-mod problem;
-mod proposed;
-mod request;
-mod solution;
+pub(crate) mod package;
+pub(crate) mod problem;
+pub(crate) mod proposed;
+pub(crate) mod solution;
 
 pub use cudf_problem::{Keep, Mode, Package, Problem, Request, Solution, Status, Unknown, initial};
 pub use details::invalid::format_of;
 pub use details::of_fault::detail;
 pub use details::{Detail, Format};
-pub use error::ReadError;
-pub use problem::held::read_problem;
-pub use problem::name_room::NameRoom;
-pub use problem::reading::{first_fault, problem_of};
-pub use proposed::Proposed;
-pub use proposed::reader::proposed_of;
-pub use solution::held::read_solution;
-pub use solution::lines::stanza_lines;
-pub use solution::placed::solution_of;
+pub use fault::ReadError;
+pub use problem::keeping::NameRoom;
+pub use problem::{first_fault, problem_of, read_problem};
+pub use proposed::{Proposed, proposed_of};
+pub use solution::{read_solution, solution_of, stanza_lines};

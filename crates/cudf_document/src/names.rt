@@ -1,11 +1,22 @@
-//! The names of a stanza's properties, and its first property of a name.
-ghost use Rattle.std.specs.Prelude.{◌≡◌, [], not, find, option_map, bytes_eq, IfOk, OnOk};
-ghost use Rattle.std.specs.List.{list_any};
+//! The names of a stanza's properties: its first property of a name, names without a meaning there, and its postmark.
 ghost use Rattle.indexmap.specs.IndexSet.{insert_key};
+ghost use Rattle.std.specs.Prelude.{◌≡◌, [], not, find, option_map, bytes_eq, IfOk, OnOk, ◌||◌, Some, is_some, codes};
+ghost use Rattle.std.specs.List.{list_any, flat_map};
 ghost use Rattle.cudf_text.specs.Promises.Views.{property_view, stanza_view};
-ghost use Rattle.cudf_problem.specs.Documents.{has_name};
+ghost use Rattle.cudf_text.specs.declared.fault.Kind.TheVariants.{E16};
+ghost use Rattle.cudf_value.specs.Parts.{look_up};
+ghost use Rattle.cudf_problem.specs.Documents.{has_name, postmark, postmark_named};
+ghost use Rattle.cudf_problem.specs.Values.{request_types};
+ghost use Rattle.cudf_problem.specs.Promises.Packages.{is_preamble};
+ghost use Rattle.cudf_document.specs.Faults.{least, fault_if};
+ghost use Rattle.cudf_document.specs.ProblemFaults.{is_reserved_but, problem_misplaces, misplaced_faults};
+ghost use Rattle.cudf_document.specs.SolutionFaults.{solution_misplaces};
+ghost use Rattle.cudf_document.specs.Working.Misplaced.{misplaces};
 
-use cudf_text::{PropertyRef, StanzaRef};
+use crate::declarations::is_reserved;
+use crate::fault::{fault_if, keep_lesser};
+use cudf_problem::{Mode, Postmark};
+use cudf_text::{Fault, Kind, PropertyRef, StanzaRef};
 use indexmap::IndexSet;
 use std::alloc::{AllocError, Global};
 use std::marker::Model;
@@ -124,4 +135,138 @@ fn find_property<'s, 'a>(
         ≡ find (λ p. bytes_eq p.name.now name.now) properties.now }
 {
     properties.iter().find(|p| p.name == name)
+}
+
+/// What document a stanza is of.
+#[derive(Clone, Copy)]
+pub(crate) enum Document {
+    Problem,
+    Solution,
+}
+
+/// Strictly, the first fault of a property whose name has no meaning in a stanza with this postmark.
+pub(crate) fn misplaced_fault(
+    document: Document,
+    mode: Mode,
+    mark: Option<Postmark>,
+    stanza: &StanzaRef<'_>,
+) -> Option<Fault>
+    ensures { result
+        ≡ least (misplaced_faults mode (misplaces document mark) (stanza_view stanza.now).properties) }
+{
+    match mode {
+        Mode::Lenient => None,
+        Mode::Strict => first_misplaced(document, mark, stanza),
+    }
+}
+
+/// The first fault of such a property.
+fn first_misplaced(
+    document: Document,
+    mark: Option<Postmark>,
+    stanza: &StanzaRef<'_>,
+) -> Option<Fault>
+    ensures { result
+        ≡ least (flat_map (λ p. fault_if (misplaces document mark p.name) p.line E16) (stanza_view stanza.now).properties) }
+{
+    match mark {
+        Some(mark) => misplaced_under(document, mark, stanza),
+        None => None,
+    }
+}
+
+/// The same under a postmark. The names of a package's properties aren't looked at.
+fn misplaced_under(document: Document, mark: Postmark, stanza: &StanzaRef<'_>) -> Option<Fault>
+    ensures { result
+        ≡ least (flat_map (λ p. fault_if (misplaces document (Some mark) p.name) p.line E16) (stanza_view stanza.now).properties) }
+{
+    match mark {
+        Postmark::Package => None,
+        Postmark::Preamble | Postmark::Request => first_of_all(document, mark, stanza),
+    }
+}
+
+/// The same, where each name is looked at.
+fn first_of_all(document: Document, mark: Postmark, stanza: &StanzaRef<'_>) -> Option<Fault>
+    ensures { result
+        ≡ least (flat_map (λ p. fault_if (misplaces document (Some mark) p.name) p.line E16) (stanza_view stanza.now).properties) }
+{
+    let mut first = None;
+    for property in &stanza.properties {
+        let is_misplaced = is_misplaced(document, mark, property.name);
+        keep_lesser(&mut first, fault_if(is_misplaced, property.line, Kind::E16));
+    }
+    first
+}
+
+/// Whether the name has no meaning in a stanza with this postmark.
+fn is_misplaced(document: Document, mark: Postmark, name: &str) -> bool
+    ensures { result ≡ misplaces document (Some mark) name.now }
+{
+    match document {
+        Document::Problem => is_misplaced_in_problem(mark, name),
+        Document::Solution => is_misplaced_in_solution(mark, name),
+    }
+}
+
+fn is_misplaced_in_problem(mark: Postmark, name: &str) -> bool
+    ensures { result ≡ problem_misplaces (Some mark) name.now }
+{
+    match mark {
+        Postmark::Preamble => is_reserved_but("preamble", name),
+        Postmark::Package => false,
+        Postmark::Request => !is_of_request(name),
+    }
+}
+
+fn is_misplaced_in_solution(mark: Postmark, name: &str) -> bool
+    ensures { result ≡ solution_misplaces (Some mark) name.now }
+{
+    match mark {
+        Postmark::Preamble => is_reserved_but("preamble", name),
+        Postmark::Package => false,
+        Postmark::Request => is_reserved_but("request", name),
+    }
+}
+
+/// Whether the name is a reserved one, other than the stanza's own.
+fn is_reserved_but(own: &str, name: &str) -> bool
+    ensures { result ≡ is_reserved_but own.now name.now }
+{
+    is_reserved(name) && name != own
+}
+
+/// Whether a property of a request may have the name.
+fn is_of_request(name: &str) -> bool
+    ensures { result ≡ (bytes_eq name.now (codes "request") || is_some (look_up name.now request_types)) }
+{
+    matches!(name, "request" | "install" | "remove" | "upgrade")
+}
+
+/// The stanza's postmark, if its first property is one.
+pub(crate) fn postmark_of(stanza: &StanzaRef<'_>) -> Option<Postmark>
+    ensures { result ≡ postmark (stanza_view stanza.now) }
+{
+    match stanza.properties.as_slice() {
+        [first, ..] => mark_named(first.name),
+        [] => None,
+    }
+}
+
+fn mark_named(name: &str) -> Option<Postmark>
+    ensures { result ≡ postmark_named name.now }
+{
+    match name {
+        "preamble" => Some(Postmark::Preamble),
+        "package" => Some(Postmark::Package),
+        "request" => Some(Postmark::Request),
+        _ => None,
+    }
+}
+
+/// Whether the stanza is a preamble, in a right place or not.
+pub(crate) fn is_preamble(stanza: &StanzaRef<'_>) -> bool
+    ensures { result ≡ is_preamble (stanza_view stanza.now) }
+{
+    matches!(postmark_of(stanza), Some(Postmark::Preamble))
 }

@@ -5,7 +5,7 @@ use Rattle.std.specs.List.{count_by, list_any}
 use Rattle.std.specs.Option.{is_none}
 use Rattle.std.proofs.Math.Bool.{or-true}
 use Rattle.std.proofs.lemmas.Bool.{or_parts, true≢false}
-use Rattle.cudf_value.specs.declared.relop.Relop.{Relop}
+use Rattle.cudf_value.specs.declared.vpkg.Relop.{Relop}
 use Rattle.cudf_value.specs.Vpkgs.{meets}
 use Rattle.cudf_index.specs.Promises.Counts.{count_pairs}
 use Rattle.cudf_index.specs.Satisfaction.{is_below_one}
@@ -15,10 +15,10 @@ use Rattle.cudf_index.specs.Working.Givers.{Adds, Counted, Gathers, Sorts, count
 use Rattle.cudf_index.specs.Working.Places.{HoldsSame}
 use Rattle.cudf_index.specs.Working.Wanted.{passes}
 use Rattle.cudf_index.specs.declared.index.gathered_names.Provision.{Provision}
-use Rattle.cudf_index.specs.declared.index.givers.Gathering.{Gathering}
-use Rattle.cudf_index.specs.declared.index.givers.Givers.{Givers}
-use Rattle.cudf_index.specs.declared.index.unsorted.Unsorted.{Unsorted}
-use Rattle.cudf_index.specs.declared.index.wanted.Wanted.TheVariants.{Meeting, Number}
+use Rattle.cudf_index.specs.declared.index.counts.Gathering.{Gathering}
+use Rattle.cudf_index.specs.declared.index.counts.Givers.{Givers}
+use Rattle.cudf_index.specs.declared.index.counts.Unsorted.{Unsorted}
+use Rattle.cudf_index.specs.declared.index.named_trees.Wanted.TheVariants.{Meeting, Number}
 use Rattle.cudf_index.proofs.CountLemmas.{count-append, count-cons}
 use Rattle.cudf_index.proofs.GiverLemmas.{any_same, counts_more, firsts, lasts, one_counts, sole_fewer, soles}
 use Rattle.cudf_index.proofs.PairLemmas.{pairs_given}

@@ -21,8 +21,8 @@ use Rattle.cudf_index.specs.Working.Places.{has, passes_at, Adds, meets_atom_alo
 use Rattle.cudf_index.specs.Working.Questions.{will_have, WillAdd, PassesOrAsks}
 use Rattle.cudf_index.specs.Working.Wanted.{passes, ends_in, with_new, with_passing, with_all}
 use Rattle.cudf_index.specs.declared.index.gathered_names.Provision.{Provision}
-use Rattle.cudf_index.specs.declared.index.wanted.Wanted.{Wanted}
-use Rattle.cudf_index.specs.declared.index.wanted.Wanted.TheVariants.{Meeting}
+use Rattle.cudf_index.specs.declared.index.named_trees.Wanted.{Wanted}
+use Rattle.cudf_index.specs.declared.index.named_trees.Wanted.TheVariants.{Meeting}
 use Rattle.cudf_index.proofs.MemberLemmas.{members_kept, members_left_out}
 use Rattle.cudf_index.proofs.PlaceLemmas.{has_where}
 use Rattle.cudf_index.proofs.SatisfactionLemmas.{member_alone}

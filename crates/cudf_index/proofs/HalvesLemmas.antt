@@ -6,11 +6,11 @@ use Rattle.std.specs.declared.alloc.Global.{Global}
 use Rattle.std.proofs.lemmas.List.Folds.{find-append}
 use Rattle.cudf_index.specs.Working.Gathering.{Completes}
 use Rattle.cudf_index.specs.Working.Trees.{provisions, AreHalves, Holds}
-use Rattle.cudf_index.specs.declared.index.entries.Entries.{Entries}
+use Rattle.cudf_index.specs.declared.index.gathered_names.Entries.{Entries}
 use Rattle.cudf_index.specs.declared.index.gathered_names.Provision.{Provision}
-use Rattle.cudf_index.specs.declared.index.tree.Node.{Node}
-use Rattle.cudf_index.specs.declared.index.tree.Node.TheVariants.{Halves}
-use Rattle.cudf_index.specs.declared.index.tree.ProvisionTree.{ProvisionTree}
+use Rattle.cudf_index.specs.declared.index.named_trees.Node.{Node}
+use Rattle.cudf_index.specs.declared.index.named_trees.Node.TheVariants.{Halves}
+use Rattle.cudf_index.specs.declared.index.named_trees.ProvisionTree.{ProvisionTree}
 
 module _ (test : Provision → Bool) where
   abbrev first : List Provision → Option ℕ

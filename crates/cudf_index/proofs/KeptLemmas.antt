@@ -3,7 +3,7 @@ use Rattle.std.proofs.Common.{◌≡◌, ℕ, zero, suc, Bool, true, false, cond
 use Rattle.std.specs.Prelude.{filter_map, slice_get}
 use Rattle.std.specs.Option.{is_none, is_some, IfSome}
 use Rattle.std.specs.List.{count_by, list_any}
-use Rattle.cudf_index.specs.declared.index.entries.Entries.{Entries}
+use Rattle.cudf_index.specs.declared.index.gathered_names.Entries.{Entries}
 use Rattle.cudf_index.specs.declared.index.gathered_names.Provision.{Provision}
 use Rattle.cudf_index.specs.Satisfaction.{Placed}
 use Rattle.cudf_index.specs.Working.Kept.{Keeps, IsSole, found}

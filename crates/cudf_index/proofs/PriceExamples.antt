@@ -1,6 +1,6 @@
 -- Prices on small statuses.
 use Rattle.std.specs.Prelude.{◌≡◌, ℕ, true, List, [], ◌∷◌, Some, None, codes, refl, ◌+◌, ◌*◌, false}
-use Rattle.cudf_value.specs.declared.relop.Relop.TheVariants.{Eq, Gt}
+use Rattle.cudf_value.specs.declared.vpkg.Relop.TheVariants.{Eq, Gt}
 use Rattle.cudf_value.specs.Formulas.{truth_atom, falsehood_atom, named}
 use Rattle.cudf_problem.specs.declared.package.Keep.TheVariants.{Nothing}
 use Rattle.cudf_problem.specs.Universe.{PlainPackage}

@@ -11,8 +11,8 @@ use Rattle.std.proofs.lemmas.List.Folds.{list_any-append}
 use Rattle.std.proofs.lemmas.List.Sorted.{list_any-IsPermutation}
 use Rattle.cudf_value.specs.Promises.Views.{vpkg_view}
 use Rattle.cudf_value.specs.Vpkgs.{meets}
-use Rattle.cudf_value.specs.declared.relop.Relop.{Relop}
-use Rattle.cudf_value.specs.declared.relop.Relop.TheVariants.{Eq, Neq, Geq, Gt, Leq, Lt}
+use Rattle.cudf_value.specs.declared.vpkg.Relop.{Relop}
+use Rattle.cudf_value.specs.declared.vpkg.Relop.TheVariants.{Eq, Neq, Geq, Gt, Leq, Lt}
 use Rattle.cudf_value.specs.declared.vpkg.Vpkg.{Vpkg}
 use Rattle.cudf_index.specs.Satisfaction.{Placed, is_below_one, meets_alone}
 use Rattle.cudf_index.specs.Working.FirstPlaces.{number_meets}
@@ -21,8 +21,8 @@ use Rattle.cudf_index.specs.Working.Places.{has, passes_at, Adds, PassesOrAdds}
 use Rattle.cudf_index.specs.Working.Questions.{will_have, WillAdd, PassesOrAsks, passes_left, LeavesBound, covers, rest_of, gives_at, answers, Leaves, Answered}
 use Rattle.cudf_index.specs.Working.Wanted.{passes}
 use Rattle.cudf_index.specs.declared.index.gathered_names.Provision.{Provision}
-use Rattle.cudf_index.specs.declared.index.wanted.Wanted.{Wanted}
-use Rattle.cudf_index.specs.declared.index.wanted.Wanted.TheVariants.{Meeting, Number}
+use Rattle.cudf_index.specs.declared.index.named_trees.Wanted.{Wanted}
+use Rattle.cudf_index.specs.declared.index.named_trees.Wanted.TheVariants.{Meeting, Number}
 use Rattle.cudf_index.proofs.ClauseLemmas.{or_none, and_or, any_agree, any_or, any_never, meeting_at}
 
 -- ---- questions beside places

@@ -5,7 +5,7 @@ use Rattle.std.specs.List.{count_by, list_all, list_any, enumerate_from, IsChunk
 use Rattle.std.proofs.lemmas.Bool.{and_parts, eq-eqb, eqb-true, ne_eqb}
 use Rattle.std.proofs.lemmas.List.{append-nil, map_push}
 use Rattle.std.specs.Option.{option_map_or}
-use Rattle.cudf_value.specs.declared.relop.Relop.{Relop}
+use Rattle.cudf_value.specs.declared.vpkg.Relop.{Relop}
 use Rattle.cudf_problem.specs.Universe.{PlainPackage}
 use Rattle.cudf_index.specs.Promises.Counts.{count_pairs, differ}
 use Rattle.cudf_index.specs.Promises.Places.{gives_number}
@@ -15,8 +15,8 @@ use Rattle.cudf_index.specs.Working.Givers as counting
 use Rattle.cudf_index.specs.Working.Givers.{Counted, CountsOf, continues, count_meeting, count_within, numbers_differ, runs, runs_differ, with_first}
 use Rattle.cudf_index.specs.Working.Wanted.{passes}
 use Rattle.cudf_index.specs.declared.index.gathered_names.Provision.{Provision}
-use Rattle.cudf_index.specs.declared.index.givers.Givers.{Givers}
-use Rattle.cudf_index.specs.declared.index.wanted.Wanted.TheVariants.{Meeting, Number}
+use Rattle.cudf_index.specs.declared.index.counts.Givers.{Givers}
+use Rattle.cudf_index.specs.declared.index.named_trees.Wanted.TheVariants.{Meeting, Number}
 use Rattle.cudf_index.proofs.ClauseLemmas.{any_never}
 use Rattle.cudf_index.proofs.CountLemmas.{count-cons}
 use Rattle.cudf_index.proofs.GatheringLemmas.{numbers_given}

@@ -1,6 +1,6 @@
 -- What no function gives: the members of a status, what they give, all numbers of a name, and a clause of nothing.
 use Rattle.std.specs.Prelude.{◌≡◌, ℕ, ◌==◌, ◌||◌, false, List, [], ◌∷◌, Some, None, codes, refl}
-use Rattle.cudf_value.specs.declared.relop.Relop.TheVariants.{Eq}
+use Rattle.cudf_value.specs.declared.vpkg.Relop.TheVariants.{Eq}
 use Rattle.cudf_value.specs.Vpkgs.{PlainVpkg}
 use Rattle.cudf_problem.specs.declared.package.Keep.TheVariants.{Nothing}
 use Rattle.cudf_problem.specs.Universe.{PlainPackage}

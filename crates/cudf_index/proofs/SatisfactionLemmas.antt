@@ -5,7 +5,7 @@ use Rattle.std.specs.List.{list_any, cons_option}
 use Rattle.std.proofs.lemmas.List.Folds.{list_any-append}
 use Rattle.std.proofs.lemmas.List.Concat.{flat_map-append}
 use Rattle.std.proofs.lemmas.List.{append-nil}
-use Rattle.cudf_value.specs.declared.relop.Relop.{Relop}
+use Rattle.cudf_value.specs.declared.vpkg.Relop.{Relop}
 use Rattle.cudf_value.specs.Vpkgs.{PlainVpkg, meets}
 use Rattle.cudf_index.specs.Satisfaction.{Placed, entry_pair, unversioned_name, package_pairs, gives, gives_all_versions, is_met_by, is_below_one, satisfies, meets_alone}
 use Rattle.cudf_problem.specs.Ids.{Id}

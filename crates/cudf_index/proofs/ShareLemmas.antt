@@ -9,7 +9,7 @@ use Rattle.cudf_index.specs.Promises.Prices.{digits, own_entries}
 use Rattle.cudf_index.specs.Satisfaction.{Placed, is_met_by, package_pairs, entry_pair, unversioned_name}
 use Rattle.cudf_index.specs.Working.Kept.{Keeps, kept_numbers, kept_unversioned}
 use Rattle.cudf_index.specs.Working.Shares.{GivesMuch}
-use Rattle.cudf_index.specs.declared.index.entries.Entries.{Entries}
+use Rattle.cudf_index.specs.declared.index.gathered_names.Entries.{Entries}
 use Rattle.cudf_index.proofs.CountLemmas.{count-all}
 use Rattle.cudf_index.proofs.TakenOffLemmas.{count-numbers}
 use Rattle.cudf_index.proofs.PriceLemmas.{digits-of_many}

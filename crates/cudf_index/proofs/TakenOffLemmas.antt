@@ -8,9 +8,9 @@ use Rattle.std.specs.List.{count_by, list_any, flat_map, cons_option, enumerate_
 use Rattle.std.proofs.lemmas.Bool.{eqb-true, eq-eqb, ne_eqb, true≢false, ltb-true, ltb-false}
 use Rattle.std.proofs.lemmas.Bool.Decides.{nat_tests}
 use Rattle.std.proofs.lemmas.List.Recursion.{is_sum_by}
-use Rattle.cudf_value.specs.declared.relop.Relop.{Relop}
+use Rattle.cudf_value.specs.declared.vpkg.Relop.{Relop}
 use Rattle.cudf_value.specs.Vpkgs.{PlainVpkg, meets}
-use Rattle.cudf_index.specs.declared.index.entries.Entries.{Entries}
+use Rattle.cudf_index.specs.declared.index.gathered_names.Entries.{Entries}
 use Rattle.cudf_index.specs.Working.Kept.{Keeps, kept_numbers, kept_unversioned, is_met_by_entry, gives_all_of}
 use Rattle.cudf_problem.specs.Universe.{PlainPackage}
 use Rattle.cudf_index.specs.Promises.Places.{at}

@@ -5,7 +5,7 @@ use Rattle.std.specs.List.{count_by, list_any, list_all, cons_option}
 use Rattle.std.specs.Option.{option_or, is_none, is_some, IfSome}
 use Rattle.std.proofs.Math.Bool.{or_assoc}
 use Rattle.std.proofs.lemmas.Bool.{true≢false, eqb-true}
-use Rattle.cudf_value.specs.declared.relop.Relop.{Relop}
+use Rattle.cudf_value.specs.declared.vpkg.Relop.{Relop}
 use Rattle.cudf_value.specs.Vpkgs.{PlainVpkg, meets}
 use Rattle.cudf_problem.proofs.ListLemmas.{find_none}
 use Rattle.cudf_index.specs.Promises.Members.{other_than}
@@ -15,7 +15,7 @@ use Rattle.cudf_index.specs.Working.Gathering.{provisions_of, own_entry, given_b
 use Rattle.cudf_index.specs.Working.Kept.{IsSole}
 use Rattle.cudf_index.specs.Working.Members.{entry_meets, provision_meets, is_other}
 use Rattle.cudf_index.specs.Working.FirstPlaces.{number_meets, meets_beside, first_place_of, is_sole, may_meet}
-use Rattle.cudf_index.specs.declared.index.entries.Entries.{Entries}
+use Rattle.cudf_index.specs.declared.index.gathered_names.Entries.{Entries}
 use Rattle.cudf_index.specs.declared.index.gathered_names.Provision.{Provision}
 use Rattle.cudf_index.proofs.CountLemmas.{any-count, unless}
 use Rattle.cudf_index.proofs.GatheringLemmas.{provisions-cons}

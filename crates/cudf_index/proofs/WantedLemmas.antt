@@ -10,20 +10,20 @@ use Rattle.std.proofs.lemmas.List.Sums.{fold-append}
 use Rattle.std.proofs.lemmas.List.Folds.{list_all-append}
 use Rattle.cudf_value.specs.Vpkgs.{PlainVpkg, meets}
 use Rattle.cudf_problem.specs.Universe.{PlainPackage}
-use Rattle.cudf_value.specs.declared.relop.Relop.{Relop}
+use Rattle.cudf_value.specs.declared.vpkg.Relop.{Relop}
 use Rattle.cudf_index.specs.Promises.Places.{places_where, is_named, gives_number}
 use Rattle.cudf_index.specs.Satisfaction.{Placed, members, meets_alone}
 use Rattle.cudf_index.specs.Working.Gathering.{provisions_of, own_entry, given_by, given_of, Completes}
 use Rattle.cudf_index.specs.Working.FirstPlaces.{number_meets}
 use Rattle.cudf_index.specs.Working.Trees.{provisions, AreHalves, Holds}
 use Rattle.cudf_index.specs.Working.Wanted.{passes, some_passes, ends_in, with_new, with_passing, with_all}
-use Rattle.cudf_index.specs.declared.index.entries.Entries.{Entries}
+use Rattle.cudf_index.specs.declared.index.gathered_names.Entries.{Entries}
 use Rattle.cudf_index.specs.declared.index.gathered_names.Provision.{Provision}
-use Rattle.cudf_index.specs.declared.index.tree.Node.{Node}
-use Rattle.cudf_index.specs.declared.index.tree.Node.TheVariants.{Halves}
-use Rattle.cudf_index.specs.declared.index.tree.ProvisionTree.{ProvisionTree}
-use Rattle.cudf_index.specs.declared.index.wanted.Wanted.{Wanted}
-use Rattle.cudf_index.specs.declared.index.wanted.Wanted.TheVariants.{Meeting, Number, Version}
+use Rattle.cudf_index.specs.declared.index.named_trees.Node.{Node}
+use Rattle.cudf_index.specs.declared.index.named_trees.Node.TheVariants.{Halves}
+use Rattle.cudf_index.specs.declared.index.named_trees.ProvisionTree.{ProvisionTree}
+use Rattle.cudf_index.specs.declared.index.named_trees.Wanted.{Wanted}
+use Rattle.cudf_index.specs.declared.index.named_trees.Wanted.TheVariants.{Meeting, Number, Version}
 use Rattle.cudf_index.proofs.CountLemmas.{any-count}
 use Rattle.cudf_index.proofs.GatheringLemmas.{numbers_given}
 use Rattle.cudf_index.proofs.SearchLemmas.{found_place}

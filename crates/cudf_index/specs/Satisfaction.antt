@@ -2,8 +2,8 @@
 -- Own: an unversioned provision gives all positive integers, without an upper end.
 use Rattle.std.specs.Prelude.{ℕ, Bool, true, false, not, ◌&&◌, ◌||◌, ◌==◌, List, [], ◌∷◌, bytes_eq, map, filter, find, Option, Some, None, is_none, option_map, filter_map, if◌then◌else◌}
 use Rattle.std.specs.List.{list_any, flat_map, enumerate_from}
-use Rattle.cudf_value.specs.declared.relop.Relop.{Relop}
-use Rattle.cudf_value.specs.declared.relop.Relop.TheVariants.{Lt}
+use Rattle.cudf_value.specs.declared.vpkg.Relop.{Relop}
+use Rattle.cudf_value.specs.declared.vpkg.Relop.TheVariants.{Lt}
 use Rattle.cudf_value.specs.Vpkgs.{PlainVpkg, meets}
 use Rattle.cudf_value.specs.Formulas.{PlainAtom, truth_atom, falsehood_atom, named}
 use Rattle.cudf_problem.specs.Ids.{Id}

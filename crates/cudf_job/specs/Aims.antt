@@ -1,10 +1,10 @@
 -- Lists of aims, by which a competition compares proposed statuses: own.
 use Rattle.std.specs.Prelude.{ℕ, List, ◌++◌, codes}
-use Rattle.cudf_job.specs.declared.aims.Aim.{Aim}
+use Rattle.cudf_job.specs.declared.criteria.Aim.{Aim}
 use Rattle.cudf_job.specs.declared.criteria.Count.{Count}
 use Rattle.cudf_job.specs.declared.criteria.Count.TheVariants.{Removed, New, Changed, NotUpToDate, UnsatRecommends, Touched}
-use Rattle.cudf_job.specs.declared.aims.Sign.{Sign}
-use Rattle.cudf_job.specs.declared.aims.Sign.TheVariants.{Least, Most}
+use Rattle.cudf_job.specs.declared.criteria.Sign.{Sign}
+use Rattle.cudf_job.specs.declared.criteria.Sign.TheVariants.{Least, Most}
 use Rattle.cudf_job.specs.declared.criteria.Criteria.{Criteria}
 
 -- each count's name, and its number among the criteria

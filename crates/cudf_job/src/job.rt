@@ -1,5 +1,6 @@
 //! What a run is asked to do.
-use crate::aims::Aim;
+
+use crate::criteria::Aim;
 use crate::key::Key;
 
 /// One run's task.

@@ -2,15 +2,13 @@
 //! a proposed status, aims, by which statuses are compared, and the ranking of solutions.
 #![tactic(auto)]
 
-mod aims;
 mod criteria;
 mod job;
 mod key;
 pub mod laws;
 mod ranking;
 
-pub use aims::{Aim, Sign, compare, read_criterion};
-pub use criteria::{Count, Criteria};
+pub use criteria::{Aim, Count, Criteria, Sign, compare, read_criterion};
 pub use job::Job;
 pub use key::{Aspect, Key, Part, Rule};
 pub use ranking::{Entrant, Judgement, ranked};

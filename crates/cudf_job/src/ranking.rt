@@ -2,8 +2,7 @@
 ghost use Rattle.std.specs.Prelude.{◌≡◌, IsTrue, IfOk};
 ghost use Rattle.cudf_job.specs.Ranking.{class, compare_counts, compare_entrants, have_own_places, ranking};
 
-use crate::aims::{Aim, compare};
-use crate::criteria::Criteria;
+use crate::criteria::{Aim, Criteria, compare};
 use std::alloc::AllocError;
 use std::cmp::Ordering;
 

@@ -13,7 +13,7 @@ use Rattle.std.proofs.lemmas.Iterator.Adapters.{position_from-zero}
 use Rattle.std.proofs.lemmas.Option.{slice_get-get_or, slice_get_past}
 use Rattle.std.proofs.lemmas.Slice.Eq.{bytes_eq-Decides}
 use Rattle.indexmap.specs.IndexSet.{insert_key}
-use Rattle.cudf_problem.specs.declared.package.ids.Numbered.{Numbered}
+use Rattle.cudf_problem.specs.declared.package.Numbered.{Numbered}
 use Rattle.cudf_problem.specs.Ids.{Id, is_id, is_among}
 use Rattle.cudf_problem.specs.Promises.Names.{names_of_ids}
 use Rattle.cudf_problem.specs.Working.Numbers.{pair_id, pair_ids, is_pair, version_at, first_or, kept_index, AreNumbered}

@@ -5,7 +5,7 @@ use Rattle.std.specs.Option.{option_map_or, option_zip}
 use Rattle.cudf_text.specs.Stanzas.{PlainStanza}
 use Rattle.cudf_value.specs.Parts.{trimmed}
 use Rattle.cudf_value.specs.Numbers.{positive}
-use Rattle.cudf_problem.specs.declared.postmark.Postmark.TheVariants.{Package}
+use Rattle.cudf_problem.specs.declared.problem.Postmark.TheVariants.{Package}
 use Rattle.cudf_problem.specs.Documents.{postmark, marks, value_of}
 use Rattle.cudf_problem.specs.Values.{name_value}
 

@@ -7,7 +7,7 @@ use Rattle.cudf_value.specs.Parts.{some_if, trimmed}
 use Rattle.cudf_value.specs.Formulas.{PlainAtom, formula}
 use Rattle.cudf_value.specs.Types.{PlainType, word_type, enum_type}
 use Rattle.cudf_value.specs.Declarations.{PlainDeclaration, declarations}
-use Rattle.cudf_problem.specs.declared.postmark.Postmark.TheVariants.{Preamble}
+use Rattle.cudf_problem.specs.declared.problem.Postmark.TheVariants.{Preamble}
 use Rattle.cudf_problem.specs.Documents.{with_earlier, has_name, postmark, marks}
 
 -- the names that can't be declared (own)

@@ -2,22 +2,10 @@
 //! definitions by which a document's stanzas describe them.
 #![tactic(auto)]
 
-mod mode;
-mod package;
-mod postmark;
+pub(crate) mod package;
 mod problem;
-mod proposed_package;
-mod request;
-mod solution;
-mod unknown;
+pub(crate) mod solution;
 
-pub use mode::Mode;
-pub use package::ids::Ids;
-pub use package::{Keep, Package, read_keep};
-pub use postmark::Postmark;
-pub use problem::Problem;
-pub use proposed_package::ProposedPackage;
-pub use request::Request;
-pub use solution::Solution;
-pub use solution::status::{Status, initial};
-pub use unknown::Unknown;
+pub use package::{Ids, Keep, Package, ProposedPackage, read_keep};
+pub use problem::{Mode, Postmark, Problem, Request};
+pub use solution::{Solution, Status, Unknown, initial};

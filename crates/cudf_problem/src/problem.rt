@@ -1,8 +1,7 @@
-//! Problems: a universe and a request.
-use crate::package::Package;
-use crate::package::ids::Ids;
-use crate::request::Request;
-use cudf_value::Formula;
+//! Problems: a universe and a request; what their stanzas are, and how strictly documents are read.
+
+use crate::package::{Ids, Package};
+use cudf_value::{Formula, VpkgList};
 use std::fmt;
 use std::marker::Model;
 
@@ -141,4 +140,40 @@ impl<'t> Problem<'t> {
     {
         self.ids.number_at(index)
     }
+}
+
+/// What is asked for; each list is empty by default.
+#[derive(Debug, Drop)]
+pub struct Request<'t> {
+    /// The line of its `request` property, from 1.
+    pub line: u64,
+    /// What is to be satisfied.
+    pub install: VpkgList<'t>,
+    /// What isn't to be satisfied.
+    pub remove: VpkgList<'t>,
+    /// What is to be satisfied by one version, not lower than before.
+    pub upgrade: VpkgList<'t>,
+}
+
+/// How strictly a document is read (own).
+#[derive(Clone, Copy, PartialEq, Eq, Hash)]
+pub enum Mode {
+    /// A package may leave out a declared property that has no default, a solution may give a pair of name and
+    /// version twice: then both mean the same pair, and a property that has no meaning in its stanza is skipped, as is
+    /// one of a solution's packages that is declared neither in the problem nor in the solution.
+    Lenient,
+    /// The first of these is E14, the second E15, the third E16, the fourth E8. A document without errors says the same
+    /// in both modes.
+    Strict,
+}
+
+/// What the first property's name says that a stanza is.
+#[derive(Clone, Copy, PartialEq, Eq)]
+pub enum Postmark {
+    /// `preamble`.
+    Preamble,
+    /// `package`.
+    Package,
+    /// `request`.
+    Request,
 }

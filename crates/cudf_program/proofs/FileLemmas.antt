@@ -18,7 +18,7 @@ use Rattle.cudf_device.specs.Device.{SinkState, SourceState}
 use Rattle.cudf_device.specs.declared.outcome.Outcome.{Outcome}
 use Rattle.cudf_device.specs.declared.outcome.RunError.{RunError}
 use Rattle.cudf_device.specs.declared.outcome.RunError.TheVariants.{TooLong, Write}
-use Rattle.cudf_problem.specs.declared.mode.Mode.{Mode}
+use Rattle.cudf_problem.specs.declared.problem.Mode.{Mode}
 use Rattle.cudf_program.specs.Failure.{IsStatusOf, Prints, failure_status}
 use Rattle.cudf_program.specs.Inputs.{IsFirstUnopened, IsGivenFor, IsHeldBy, IsOpenable, IsOpenedAs, IsThere, IsUnopened, KeepsGiven, Opens, ReaderOf, left_behind}
 use Rattle.cudf_program.specs.Program.{AreShort, Did, Fails, Finishes, IsDone, IsKnownAs, IsTried, HoldsOfKnown, labels, names_in}

@@ -6,7 +6,7 @@ use Rattle.std.specs.declared.io.Error.{Error}
 use Rattle.cudf_device.specs.Promises.DeviceInside.{device_inner}
 use Rattle.cudf_device.specs.Promises.NamedInside.{named_source}
 use Rattle.cudf_device.specs.declared.device.Device.{Device}
-use Rattle.cudf_device.specs.declared.named.Named.{Named}
+use Rattle.cudf_device.specs.declared.device.Named.{Named}
 use Rattle.cudf_command_line.specs.Command.{file_label, takes_standard, takes_standard_twice}
 use Rattle.cudf_command_line.specs.declared.command.FileName.{FileName}
 use Rattle.cudf_command_line.specs.declared.command.FileName.TheVariants.{Path, Standard}
@@ -14,9 +14,9 @@ use Rattle.cudf_command_line.specs.declared.command.Order.{Order}
 use Rattle.cudf_program.specs.Failure.{open_failure}
 use Rattle.cudf_program.specs.declared.failure.Failure.{Failure}
 use Rattle.cudf_program.specs.declared.failure.Failure.TheVariants.{Memory}
-use Rattle.cudf_program.specs.declared.file.Input.{Input}
-use Rattle.cudf_program.specs.declared.file.Origin.{Origin}
-use Rattle.cudf_program.specs.declared.file.Origin.TheVariants as origin
+use Rattle.cudf_program.specs.declared.system.Input.{Input}
+use Rattle.cudf_program.specs.declared.system.Origin.{Origin}
+use Rattle.cudf_program.specs.declared.system.Origin.TheVariants as origin
 
 -- ---- bytes
 

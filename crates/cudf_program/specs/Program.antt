@@ -5,7 +5,7 @@ use Rattle.std.specs.Io.KnownBytes.{Appends, Keeps}
 use Rattle.std.specs.IoError.{error_kind}
 use Rattle.std.specs.declared.io.Error.{Error}
 use Rattle.std.specs.declared.io.ErrorKind.TheVariants.{OutOfMemory}
-use Rattle.cudf_problem.specs.declared.mode.Mode.{Mode}
+use Rattle.cudf_problem.specs.declared.problem.Mode.{Mode}
 use Rattle.cudf_device.specs.Device.{SinkState}
 use Rattle.cudf_device.specs.Promises.NamedInside.{name_of}
 use Rattle.cudf_check.specs.Naming.{Names}

@@ -16,22 +16,16 @@ ghost use Rattle.cudf_program.specs.Program.{Finishes, Follows, IsTried, Respond
 ghost use Rattle.cudf_program.specs.declared.failure.Failure.TheVariants as reason;
 
 mod failure;
-mod file;
-mod output;
-mod stop;
 mod system;
 
 use cudf_check::{Device, Named, RunError, Sink, run};
 use cudf_command_line::{FileName, Order, Usage, command};
-use failure::Failure;
-use file::{Input, open};
-use output::{Output, write_all};
+use failure::{Failure, Stop, tell_outcome};
 use std::alloc::{AllocError, Global};
 use std::env;
 use std::io::{self, Read, Write};
 use std::process::ExitCode;
-use stop::{Stop, tell_outcome};
-use system::System;
+use system::{Input, Output, System, open, write_all};
 
 // No clause can be stated on `main`: what it hands to `respond`, and what it does with the answer, is read. Of a write that
 // failed it says why, which only the output knows.

@@ -14,7 +14,7 @@ use Rattle.cudf_reasons.specs.Laws.{keys_of}
 use Rattle.cudf_reasons.specs.Reasons.{Keyed, PlainReason, ascending, core_of, is_of, negative_places, positive_places, reason_of, same_key}
 use Rattle.cudf_reasons.specs.Views.{needed_view}
 use Rattle.cudf_reasons.specs.Working.Gathered.{is_at, literals_in, other_places}
-use Rattle.cudf_reasons.specs.declared.needed.Needed.{Needed}
+use Rattle.cudf_reasons.specs.declared.gathering.Needed.{Needed}
 use Rattle.cudf_reasons.proofs.GroupLemmas.{AllOfKey, StartsApart, clauses_of, grouped_run}
 use Rattle.cudf_reasons.proofs.KeyOrderLemmas.{same_is, same_itself}
 use Rattle.cudf_reasons.proofs.TableLemmas.{reason}

@@ -10,7 +10,7 @@ use Rattle.cudf_job.specs.declared.key.Part.TheVariants.{Package, Request, Solut
 use Rattle.cudf_reasons.specs.Reasons.{PlainReason, brought, is_brought_by, is_depends_or_conflicts, is_new, is_of, with_reason, with_reasons}
 use Rattle.cudf_reasons.specs.Working.Tables.{reason_at, no_reason}
 use Rattle.cudf_reasons.specs.Working.Walks.{IsMarked, IsRunOf, keys_ascend}
-use Rattle.cudf_reasons.specs.declared.table.Run.{Run}
+use Rattle.cudf_reasons.specs.declared.gathering.Run.{Run}
 use Rattle.cudf_reasons.proofs.KeyOrderLemmas.{distinct_at}
 use Rattle.cudf_reasons.proofs.ListLemmas.{filter_all, filter_at, filter_before, filter_none, filter_upto}
 use Rattle.cudf_reasons.proofs.WalkLemmas.{new_as_before, none_new, told_itself, with_new, with_old}

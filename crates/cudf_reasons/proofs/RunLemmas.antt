@@ -18,7 +18,7 @@ use Rattle.cudf_reasons.specs.Reasons.{PlainReason, is_depends_or_conflicts, is_
 use Rattle.cudf_reasons.specs.Working.Runs.{comes_before, is_brought}
 use Rattle.cudf_reasons.specs.Working.Tables.{no_reason, reason_at, reason_in}
 use Rattle.cudf_reasons.specs.Working.Walks.{IsRunOf, keys_ascend}
-use Rattle.cudf_reasons.specs.declared.table.Row.{Row}
+use Rattle.cudf_reasons.specs.declared.gathering.Row.{Row}
 use Rattle.cudf_reasons.proofs.KeyOrderLemmas.{before_at}
 
 -- ---- two keys in order

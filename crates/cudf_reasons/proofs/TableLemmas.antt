@@ -7,7 +7,7 @@ use Rattle.cudf_job.specs.Keys.{PlainKey}
 use Rattle.cudf_job.specs.KeyViews.{key_view}
 use Rattle.cudf_reasons.specs.Reasons.{PlainReason}
 use Rattle.cudf_reasons.specs.Working.Tables.{IsInside, reason_in}
-use Rattle.cudf_reasons.specs.declared.table.Row.{Row}
+use Rattle.cudf_reasons.specs.declared.gathering.Row.{Row}
 
 abbrev pub reason : PlainKey → List ℕ → List ℕ → PlainReason
 reason key named met = record { key = key; named = named; met = met }

@@ -3,7 +3,7 @@ use Rattle.std.specs.Prelude.{ℕ, List}
 use Rattle.cudf_job.specs.Keys.{PlainKey}
 use Rattle.cudf_job.specs.KeyViews.{key_view}
 use Rattle.cudf_reasons.specs.Reasons.{Keyed, PlainReason}
-use Rattle.cudf_reasons.specs.declared.needed.Needed.{Needed}
+use Rattle.cudf_reasons.specs.declared.gathering.Needed.{Needed}
 
 abbrev pub needed_view : Needed → Keyed
 needed_view needed = (key_view needed.key, needed.literals.now)

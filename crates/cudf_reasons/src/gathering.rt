@@ -1,15 +1,15 @@
-//! The reasons of needed CNF clauses, by key.
-ghost use Rattle.std.specs.Prelude.{◌≡◌, ◌<◌, ◌≤◌, ℕ, true, false, IfOk, length, map};
+//! The reasons of needed CNF clauses, by key, in flat vectors.
+ghost use Rattle.std.specs.Prelude.{◌≡◌, ◌<◌, ◌≤◌, ℕ, true, false, IfOk, length, map, ◌++◌, ◌∷◌, [], OnOk, OnErr};
+ghost use Rattle.std.specs.List.{HoldsAt};
 ghost use Rattle.cudf_job.specs.KeyViews.{key_view};
 ghost use Rattle.cudf_reasons.specs.Reasons.{ascending, core_of, is_of, same_key};
 ghost use Rattle.cudf_reasons.specs.Views.{needed_view};
 ghost use Rattle.cudf_reasons.specs.Working.Gathered.{is_at};
 
-use crate::needed::Needed;
-use crate::table::Table;
-use cudf_job::{Key, Part};
+use cudf_job::{Key, Part, Rule};
 use cudf_lrat::Literal;
 use std::alloc::{AllocError, Global};
+use std::marker::Model;
 
 /// The reasons of these CNF clauses, of which those of one key are one after the other.
 pub(crate) fn tabulate(alloc: Global, needed: &[Needed<'_>]) -> Result<Table, AllocError>
@@ -112,4 +112,180 @@ fn is_same(a: Key, b: Key) -> bool
     ensures { result ≡ same_key (key_view a) (key_view b) }
 {
     a.cmp(&b).is_eq()
+}
+
+/// A reason: its key, and where its places are: first those that it names, and after them those that it is met by.
+#[derive(Clone, Copy)]
+pub(crate) struct Row {
+    key: Key,
+    start: usize,
+    middle: usize,
+    end: usize,
+}
+
+impl Row {
+    ghost use Rattle.std.specs.Prelude.{◌≡◌};
+    ghost use Rattle.cudf_job.specs.KeyViews.{key_view};
+    ghost use Rattle.cudf_reasons.specs.Working.Runs.{comes_before, is_brought};
+
+    /// Whether it is of a package before this place.
+    fn comes_before(self, place: u64) -> bool
+        ensures { result ≡ comes_before place (key_view self.key).part }
+    {
+        match self.key.part() {
+            Part::Package(own) => own < place,
+            Part::Request | Part::Solution => false,
+        }
+    }
+
+    /// Whether it is of the package at this place, and of depends or conflicts.
+    fn is_brought_by(self, place: u64) -> bool
+        ensures { result ≡ is_brought place (key_view self.key) }
+    {
+        match (self.key.part(), self.key.rule()) {
+            (Part::Package(own), Rule::Depends | Rule::Conflicts) => own == place,
+            _ => false,
+        }
+    }
+}
+
+/// Reasons. Contracts see the list of them.
+#[derive(Drop)]
+pub(crate) struct Table {
+    rows: Vec<Row>,
+    places: Vec<u32>,
+}
+
+impl Model for Table {
+    ghost use Rattle.std.specs.Prelude.{List, All, map};
+    ghost use Rattle.cudf_reasons.specs.Reasons.{PlainReason};
+
+    ghost Value = { List PlainReason };
+
+    ghost use Rattle.cudf_reasons.specs.Working.Tables.{reason_in, IsInside};
+
+    ghost view = { λ t. map (reason_in t.places.items) t.rows.items };
+
+    ghost invariant = { λ t. All (IsInside t.places.items) t.rows.items };
+}
+
+/// Which reasons are asked for.
+#[derive(Clone, Copy)]
+pub(crate) enum Root {
+    /// Those of the request that are met by none.
+    Asked,
+    /// Those of `keep`.
+    Kept,
+    /// All.
+    Any,
+}
+
+/// Reasons that are one after the other: from the first to before the end.
+#[derive(Clone, Copy)]
+pub(crate) struct Run {
+    pub(crate) start: usize,
+    pub(crate) end: usize,
+}
+
+impl Table {
+    ghost use Rattle.std.specs.Prelude.{◌≡◌, ◌<◌, ◌++◌, ◌∷◌, [], length, map, IsTrue, OnOk, OnErr};
+    ghost use Rattle.std.specs.List.{HoldsAt};
+    ghost use Rattle.cudf_job.specs.KeyViews.{key_view};
+    ghost use Rattle.cudf_reasons.specs.Working.Walks.{is_root, keys_ascend, IsRunOf};
+
+    /// No reasons. It takes no memory.
+    pub(crate) fn new(alloc: Global) -> Self
+        ensures { result ≡ [] }
+    {
+        Table {
+            rows: Vec::new(alloc),
+            places: Vec::new(alloc),
+        }
+    }
+
+    /// How many there are.
+    pub(crate) fn len(&self) -> usize
+        ensures { result ≡ length self.now }
+    {
+        self.rows.len()
+    }
+
+    /// The key of the one at this index.
+    pub(crate) fn key(&self, index: usize) -> Key
+        requires { index < length self.now }
+        ensures { HoldsAt (λ reason. reason.key ≡ key_view result) self.now index }
+    {
+        self.rows[index].key
+    }
+
+    /// The places that it names.
+    pub(crate) fn named(&self, index: usize) -> &[u32]
+        requires { index < length self.now }
+        ensures { HoldsAt (λ reason. reason.named ≡ result.now) self.now index }
+    {
+        let row = self.rows[index];
+        &self.places[row.start..row.middle]
+    }
+
+    /// The places that it is met by.
+    pub(crate) fn met(&self, index: usize) -> &[u32]
+        requires { index < length self.now }
+        ensures { HoldsAt (λ reason. reason.met ≡ result.now) self.now index }
+    {
+        let row = self.rows[index];
+        &self.places[row.middle..row.end]
+    }
+
+    /// Whether the one at this index is asked for so.
+    pub(crate) fn has_root(&self, root: Root, index: usize) -> bool
+        requires { index < length self.now }
+        ensures { HoldsAt (λ reason. is_root root reason ≡ result) self.now index }
+    {
+        let key = self.key(index);
+        match root {
+            Root::Asked => matches!(key.part(), Part::Request) && self.met(index).is_empty(),
+            Root::Kept => matches!(key.rule(), Rule::Keep),
+            Root::Any => true,
+        }
+    }
+
+    /// Those that the package at this place brings in: by two searches.
+    pub(crate) fn run_of(&self, place: u32) -> Run
+        requires { IsTrue (keys_ascend self.now) }
+        ensures { IsRunOf self.now place result }
+    {
+        let place = u64::from(place);
+        let start = self.rows.partition_point(|row| row.comes_before(place));
+        let end = self
+            .rows
+            .partition_point(|row| row.comes_before(place) || row.is_brought_by(place));
+        Run { start, end }
+    }
+
+    /// Puts a reason after the others.
+    pub(crate) fn push(&mut self, key: Key, named: &[u32], met: &[u32]) -> Result<(), AllocError>
+        ensures ok { OnOk result (self.new ≡ self.old ++ record { key = key_view key; named = named.now; met = met.now } ∷ []) }
+    {
+        let start = self.places.len();
+        self.places.extend_from_slice(named)?;
+        let middle = self.places.len();
+        self.places.extend_from_slice(met)?;
+        let end = self.places.len();
+        self.rows.push(Row {
+            key,
+            start,
+            middle,
+            end,
+        })?;
+        Ok(())
+    }
+}
+
+/// A CNF clause that a refutation needs.
+#[derive(Clone, Copy)]
+pub struct Needed<'c> {
+    /// The key of its instance.
+    pub key: Key,
+    /// Its literals, whose places are those of packages, from 1.
+    pub literals: &'c [Literal],
 }

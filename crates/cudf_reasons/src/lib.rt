@@ -4,12 +4,9 @@
 
 mod gathering;
 pub mod laws;
-mod needed;
 mod order;
-mod table;
-mod told;
 mod walk;
 
-pub use needed::Needed;
+pub use gathering::Needed;
 pub use order::reasons;
-pub use told::Reasons;
+pub use walk::Reasons;

@@ -7,11 +7,8 @@ ghost use Rattle.cudf_reasons.specs.Views.{needed_view, told_as};
 ghost use Rattle.cudf_reasons.specs.Working.Tables.{reason_at};
 ghost use Rattle.cudf_reasons.specs.Working.Walks.{keys_ascend};
 
-use crate::gathering::tabulate;
-use crate::needed::Needed;
-use crate::table::{Root, Table};
-use crate::told::Reasons;
-use crate::walk::Walk;
+use crate::gathering::{Needed, Root, Table, tabulate};
+use crate::walk::{Reasons, Walk};
 use std::alloc::{AllocError, Global};
 
 /// The instances of the needed CNF clauses, in the order in which they are reported: those of the request that are met by none,

@@ -18,7 +18,7 @@ use Rattle.cudf_job.specs.declared.key.Part.TheVariants as part
 use Rattle.cudf_job.specs.declared.key.Rule.{Rule}
 use Rattle.cudf_job.specs.declared.key.Rule.TheVariants as rule
 use Rattle.cudf_job.specs.declared.key.Aspect.{Aspect}
-use Rattle.cudf_referee.specs.declared.left.candidate.Left.{Left}
+use Rattle.cudf_referee.specs.declared.left.Left.{Left}
 use Rattle.cudf_job.specs.Keys.{PlainKey, key_of, part_row, part_place, is_key, rule_row, aspect_row, key_ranks}
 use Rattle.cudf_referee.specs.Proposals.{Proposal}
 use Rattle.cudf_referee.specs.Violations.{package_instances, request_instances, unknown_instance}

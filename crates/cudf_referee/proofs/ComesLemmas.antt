@@ -9,7 +9,7 @@ use Rattle.std.specs.Prelude.{slice_get}
 use Rattle.std.specs.List.{enumerate_from}
 use Rattle.cudf_problem.specs.Universe.{PlainPackage}
 use Rattle.cudf_index.specs.Satisfaction.{Placed}
-use Rattle.cudf_referee.specs.declared.left.candidate.Left.{Left}
+use Rattle.cudf_referee.specs.declared.left.Left.{Left}
 use Rattle.cudf_referee.specs.Working.PackageLeft.{left_in, left_view}
 use Rattle.cudf_referee.proofs.SearchLemmas.{packages-next}
 use Rattle.cudf_problem.specs.Statuses.{PlainUnknown, ascend_above}

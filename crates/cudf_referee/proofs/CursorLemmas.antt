@@ -15,8 +15,8 @@ use Rattle.cudf_job.specs.Keys.{PlainKey, is_key}
 use Rattle.cudf_job.specs.Promises.Keys.{is_fitting}
 use Rattle.cudf_referee.specs.Proposals.{Proposal}
 use Rattle.cudf_referee.specs.Promises.Stops.{stop_at, package_stops, PlainPosition, at_start, at_key, precedes, is_after, is_ahead}
-use Rattle.cudf_referee.specs.declared.left.candidate.Left.{Left}
-use Rattle.cudf_referee.specs.declared.left.request_left.RequestLeft.{RequestLeft}
+use Rattle.cudf_referee.specs.declared.left.Left.{Left}
+use Rattle.cudf_referee.specs.declared.left.RequestLeft.{RequestLeft}
 use Rattle.cudf_referee.specs.Promises.Walks.{Walking}
 use Rattle.cudf_referee.specs.Violations.{package_instances, request_instances}
 use Rattle.cudf_referee.specs.Working.RequestLeft.{request_left_view}

@@ -8,9 +8,9 @@ use Rattle.cudf_job.specs.declared.key.Key.{Key}
 use Rattle.cudf_job.specs.declared.key.Part.TheVariants as part
 use Rattle.cudf_job.specs.Keys.{PlainKey}
 use Rattle.cudf_job.specs.KeyViews.{key_view}
-use Rattle.cudf_referee.specs.declared.left.candidate.Candidate.{Candidate}
-use Rattle.cudf_referee.specs.declared.left.candidate.Left.{Left}
-use Rattle.cudf_referee.specs.declared.left.request_left.RequestLeft.{RequestLeft}
+use Rattle.cudf_referee.specs.declared.left.Candidate.{Candidate}
+use Rattle.cudf_referee.specs.declared.left.Left.{Left}
+use Rattle.cudf_referee.specs.declared.left.RequestLeft.{RequestLeft}
 use Rattle.cudf_referee.specs.Proposals.{everything}
 use Rattle.cudf_referee.specs.Violations.{package_instances, request_instances, instance_of}
 use Rattle.cudf_referee.specs.Working.Finders.{IsPackageKept, IsRequestKept}

@@ -9,7 +9,7 @@ use Rattle.std.proofs.lemmas.Option.{slice_get_within, get_or_from_slice_get}
 use Rattle.std.proofs.lemmas.List.{at_drop_more}
 use Rattle.std.proofs.lemmas.List.FromFn.{length-enumerate_from, get_or-enumerate_from}
 use Rattle.cudf_index.specs.Satisfaction.{Placed, members}
-use Rattle.cudf_referee.specs.declared.left.candidate.Candidate.{Candidate}
+use Rattle.cudf_referee.specs.declared.left.Candidate.{Candidate}
 use Rattle.cudf_referee.specs.Promises.Walks.{Walking}
 use Rattle.cudf_referee.specs.Proposals.{holds_place}
 use Rattle.cudf_referee.specs.Working.PackageLeft.{Fits}

@@ -1,6 +1,6 @@
 -- What pages of small listings cost at most, and the way to their ends at least, reckoned by hand beside each.
 use Rattle.std.specs.Prelude.{◌≡◌, ℕ, ◌==◌, ◌||◌, Bool, true, false, List, [], ◌∷◌, length, Option, Some, None, codes, refl}
-use Rattle.cudf_value.specs.declared.relop.Relop.TheVariants.{Eq, Gt}
+use Rattle.cudf_value.specs.declared.vpkg.Relop.TheVariants.{Eq, Gt}
 use Rattle.cudf_value.specs.Vpkgs.{PlainVpkg}
 use Rattle.cudf_value.specs.Formulas.{PlainAtom, truth_atom, falsehood_atom, named}
 use Rattle.cudf_problem.specs.declared.package.Keep.{Keep}

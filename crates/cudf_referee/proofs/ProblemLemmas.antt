@@ -12,9 +12,9 @@ use Rattle.cudf_problem.specs.Statuses.{is_initial}
 use Rattle.cudf_problem.specs.Universe.{PlainProblem}
 use Rattle.cudf_index.specs.Satisfaction.{Placed, members}
 use Rattle.cudf_referee.specs.declared.instance.Instance.{Instance}
-use Rattle.cudf_referee.specs.declared.left.candidate.Candidate.{Candidate}
-use Rattle.cudf_referee.specs.declared.left.candidate.Left.{Left}
-use Rattle.cudf_referee.specs.declared.left.request_left.RequestLeft.{RequestLeft}
+use Rattle.cudf_referee.specs.declared.left.Candidate.{Candidate}
+use Rattle.cudf_referee.specs.declared.left.Left.{Left}
+use Rattle.cudf_referee.specs.declared.left.RequestLeft.{RequestLeft}
 use Rattle.cudf_referee.specs.Instances.{PlainInstance}
 use Rattle.cudf_referee.specs.Promises.Views.{instance_view}
 use Rattle.cudf_referee.specs.Proposals.{Proposal, everything, holds_place}

@@ -20,8 +20,8 @@ use Rattle.cudf_referee.specs.Explanations.{first_helping}
 use Rattle.cudf_referee.specs.Instances.{PlainWhat, needs, install, upgrade}
 use Rattle.cudf_referee.specs.Promises.Laws.{NothingDoes, satisfies_what, WasInstalled, WouldDo}
 use Rattle.cudf_referee.specs.Working.Firsts.{lesser_of, searched}
-use Rattle.cudf_referee.specs.declared.referee.remedies.Among.{Among}
-use Rattle.cudf_referee.specs.declared.referee.remedies.Among.TheVariants.{All, Initial}
+use Rattle.cudf_referee.specs.declared.referee.explainer.Among.{Among}
+use Rattle.cudf_referee.specs.declared.referee.explainer.Among.TheVariants.{All, Initial}
 
 -- ---- packages in the order of their places
 

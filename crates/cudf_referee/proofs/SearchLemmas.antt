@@ -13,7 +13,7 @@ use Rattle.cudf_problem.specs.Promises.Views.{package_view}
 use Rattle.cudf_problem.specs.Universe.{PlainPackage}
 use Rattle.cudf_problem.specs.Statuses.{PlainUnknown}
 use Rattle.cudf_index.specs.Satisfaction.{Placed}
-use Rattle.cudf_referee.specs.declared.left.candidate.Left.{Left}
+use Rattle.cudf_referee.specs.declared.left.Left.{Left}
 use Rattle.cudf_referee.specs.Instances.{PlainInstance}
 use Rattle.cudf_referee.specs.Proposals.{Proposal}
 use Rattle.cudf_referee.specs.Promises.Stops.{Stop, stop_at, package_stops, cost, look_ups, stop_cost, least_cost}

@@ -20,7 +20,7 @@ use Rattle.std.proofs.lemmas.Cmp.{nat_list_eq_equiv}
 use Rattle.cudf_problem.specs.Documents.{is_empty}
 use Rattle.cudf_problem.proofs.ListLemmas.{list_any-map}
 use Rattle.cudf_index.specs.Satisfaction.{Placed}
-use Rattle.cudf_referee.specs.declared.counting.standing.Standing.{Standing}
+use Rattle.cudf_referee.specs.declared.counting.Standing.{Standing}
 use Rattle.cudf_referee.specs.Criteria.{each_once, versions_of, is_number_among, is_same_set, greatest, at_most_max}
 use Rattle.cudf_referee.specs.Violations.{has_package}
 use Rattle.cudf_referee.specs.Working.Standings.{no_standing, differ, standing_with, held, names_of, standing_of, standings_of}

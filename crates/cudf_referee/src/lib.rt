@@ -4,16 +4,11 @@
 
 mod counting;
 mod instance;
-mod instance_finder;
 pub mod laws;
 mod left;
-mod position;
-mod problem_instances;
 mod referee;
 mod rules;
 
 pub use cudf_job::{Aim, Aspect, Count, Criteria, Key, Part, Rule, Sign, compare, read_criterion};
-pub use instance::{Instance, What};
-pub use instance_finder::InstanceFinder;
-pub use problem_instances::ProblemInstances;
+pub use instance::{Instance, InstanceFinder, ProblemInstances, What};
 pub use referee::{Explainer, Instances, Referee, Remedies, greatest_before};

@@ -1,34 +1,34 @@
 //! The referee of a proposed status: its verdict and its counts, and the walk over the violated instances.
-ghost use Rattle.std.specs.Prelude.{◌≡◌, List, map, IfOk};
-ghost use Rattle.cudf_problem.specs.Promises.Views.{package_view};
+ghost use Rattle.std.specs.Prelude.{◌≡◌, List, map, IfOk, ℕ, None, bytes_eq, OnOk, if◌then◌else◌, ◌<◌, ◌^◌, All, IsTrue, length};
+ghost use Rattle.cudf_value.specs.Promises.Views.{list_view};
+ghost use Rattle.cudf_problem.specs.Promises.Views.{package_view, unknown_view};
 ghost use Rattle.cudf_problem.specs.Documents.{is_empty};
+ghost use Rattle.cudf_problem.specs.Statuses.{is_initial, ascend_above};
 ghost use Rattle.cudf_index.specs.Promises.Members.{other_than};
-ghost use Rattle.cudf_index.specs.Satisfaction.{Placed};
+ghost use Rattle.cudf_index.specs.Satisfaction.{Placed, members, gives, package_pairs};
 ghost use Rattle.cudf_referee.specs.Violations.{others};
 ghost use Rattle.cudf_referee.specs.Working.Named.{has_kept_name};
 ghost use Rattle.cudf_referee.specs.Promises.Walks.{left};
+ghost use Rattle.cudf_referee.specs.Promises.Before.{AreGreatest};
+ghost use Rattle.cudf_referee.specs.Working.Before.{kept_greatest, with_number, with_pairs, with_entries};
+ghost use Rattle.cudf_referee.specs.Working.Walkers.{put_forward};
+ghost use Rattle.cudf_referee.specs.Working.Numbered.{IsNumbered};
 
-mod before;
 mod explainer;
-mod held;
 mod instances;
 mod needers;
-mod numbered;
-mod partners;
-mod remedies;
 
 use crate::counting::{count_changes, count_unsatisfied};
 use crate::instance::{Instance, What};
-pub use before::greatest_before;
-use cudf_index::Index;
+use crate::referee::instances::number_at;
+use cudf_index::{Index, Steps};
 use cudf_job::{Criteria, Key, Part};
-use cudf_problem::{Keep, Package, Problem, Solution, Status, initial};
-pub use explainer::Explainer;
+use cudf_problem::{Keep, Package, Problem, Solution, Status, Unknown, initial};
+use cudf_value::VpkgList;
+pub use explainer::{Explainer, Remedies};
+use indexmap::IndexMap;
 pub use instances::Instances;
-use needers::{Needers, needers_of, search_needer};
-use numbered::keys_can_be_written;
-use partners::partners_of;
-pub use remedies::Remedies;
+use needers::{Needers, needers_of, partners_of, search_needer};
 use std::alloc::{AllocError, Global};
 use std::marker::Model;
 
@@ -280,4 +280,116 @@ impl<'p, 't> Referee<'p, 't> {
     {
         self.criteria
     }
+}
+
+/// Names with the greatest number of each, as a version or by a versioned feature; features without
+/// a number don't count (own).
+#[derive(Drop)]
+struct NumberedNames<'t> {
+    greatest: IndexMap<&'t str, u64>,
+}
+
+impl<'t> NumberedNames<'t> {
+    fn new(alloc: Global) -> Self
+        ensures { (f : List ℕ) → kept_greatest f result ≡ None }
+    {
+        NumberedNames {
+            greatest: IndexMap::new(alloc),
+        }
+    }
+
+    /// Adds a number of the name.
+    fn add(&mut self, name: &'t str, number: u64) -> Result<(), AllocError>
+        ensures { OnOk result ((f : List ℕ) → kept_greatest f self.new
+            ≡ (if bytes_eq name.now f then with_number (kept_greatest f self.old) number else kept_greatest f self.old)) }
+    {
+        let greatest = self.greatest.entry(name)?.or_insert(number);
+        *greatest = (*greatest).max(number);
+        Ok(())
+    }
+
+    /// Adds all numbers that the package gives.
+    fn add_package(&mut self, package: &Package<'t>) -> Result<(), AllocError>
+        ensures { OnOk result ((f : List ℕ) → kept_greatest f self.new ≡ with_pairs f (package_pairs (package_view «package».now)) (kept_greatest f self.old)) }
+    {
+        self.add(package.name, package.version)?;
+        self.add_entries(package.provides)?;
+        Ok(())
+    }
+
+    fn add_entries(&mut self, entries: VpkgList<'t>) -> Result<(), AllocError>
+        ensures { OnOk result ((f : List ℕ) → kept_greatest f self.new ≡ with_entries f (list_view entries.entry) (kept_greatest f self.old)) }
+    {
+        for entry in entries.vpkgs() {
+            if let Some((_, number)) = entry.bound {
+                self.add(entry.name, number)?;
+            }
+        }
+        Ok(())
+    }
+
+    /// The greatest number of the name.
+    fn find(&self, name: &str) -> Option<u64>
+        ensures { result ≡ kept_greatest name.now self.now }
+    {
+        self.greatest.get(name).copied()
+    }
+}
+
+/// The numbers of all names that the initial status gives.
+fn numbered<'t>(alloc: Global, problem: &Problem<'t>) -> Result<NumberedNames<'t>, AllocError>
+    ensures { IfOk result (λ kept. (f : List ℕ) → kept_greatest f kept ≡ with_pairs f (gives (members (is_initial problem.now) problem.now.packages)) None) }
+{
+    let mut kept = NumberedNames::new(alloc);
+    for package in problem.packages() {
+        if package.installed {
+            kept.add_package(package)?;
+        }
+    }
+    Ok(kept)
+}
+
+/// For each entry of `upgrade`, the greatest number of its name that the initial status gives, as a version or by a
+/// versioned feature. `None` where it gives none. Where there is no entry, no package is looked at. Own.
+///
+/// # Errors
+///
+/// `AllocError` where memory for the numbers is refused.
+pub fn greatest_before(alloc: Global, problem: &Problem<'_>) -> Result<Vec<Option<u64>>, AllocError>
+    ensures { IfOk result (λ before. AreGreatest (members (is_initial problem.now) problem.now.packages) problem.now.request.upgrade before.items) }
+{
+    let upgrade = problem.request().upgrade;
+    let count = upgrade.len();
+    let mut before = Vec::with_capacity(alloc, count)?;
+    if count == 0 {
+        return Ok(before);
+    }
+    let names = numbered(alloc, problem)?;
+    for entry in upgrade.vpkgs() {
+        before.push(names.find(entry.name))?;
+    }
+    Ok(before)
+}
+
+/// The numbers of stanzas that ascend are those of a `u64`, since the last one is.
+fn number_stanzas(unknown: &[Unknown<'_>])
+    requires { IsTrue (ascend_above 0 (map unknown_view unknown.now)) }
+    ensures { All (λ u. u.stanza < 2 ^ 64) (map unknown_view unknown.now) }
+{
+    let count = unknown.len();
+    if count == 0 {
+        return;
+    }
+    let _last = number_at(unknown, count - 1, &mut Steps::new());
+}
+
+/// The places in the lists of a problem and a solution are numbers of a `u64`, since each list lies in memory.
+pub(super) fn keys_can_be_written(problem: &Problem<'_>, solution: &Solution<'_>)
+    requires { IsTrue (ascend_above 0 (map unknown_view solution.now.unknown.items)) }
+    ensures { (proposed : List Placed) → length problem.now.packages < 2 ^ 64
+        → IsNumbered (put_forward problem.now proposed (map unknown_view solution.now.unknown.items)) }
+{
+    let _packages = problem.packages();
+    let _request = problem.request();
+    number_stanzas(solution.unknown.as_slice());
 }

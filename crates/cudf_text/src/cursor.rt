@@ -6,11 +6,9 @@ ghost use Rattle.cudf_text.specs.Working.Left.{text_left, with_tracked, IsCounte
 ghost use Rattle.cudf_text.specs.Working.Steps.{open_state, line_of, continued, with_property, step, stepped};
 ghost use Rattle.cudf_text.specs.Working.Tracked.{tracked_part, tracked_properties};
 
-use crate::continuation::{continue_last, owned};
 use crate::fault::{Fault, Kind};
-use crate::lending::keep_properties;
-use crate::line::{Line, classify, first_line};
-use crate::room::{Room, Texts};
+use crate::line::{Line, classify, continue_last, first_line, owned};
+use crate::source::{Room, Texts, keep_properties};
 use crate::text::{Property, PropertyRef};
 use std::alloc::{AllocError, Global};
 use std::fmt;

@@ -11,8 +11,8 @@ use Rattle.std.proofs.lemmas.List.{append_assoc, append-nil, take-append-drop, g
 use Rattle.std.proofs.lemmas.List.Folds.{list_all-append}
 use Rattle.std.proofs.lemmas.List.Sums.{suffix_len_is, AllPass-from_list_all}
 use Rattle.cudf_text.specs.Chars.{is_blank, is_blank_text, trim_start, trim_end, trim, is_pkgname_char, is_operator_char, rest_after}
-use Rattle.cudf_value.specs.declared.relop.Relop.{Relop}
-use Rattle.cudf_value.specs.declared.relop.Relop.TheVariants.{Eq, Neq, Geq, Gt, Leq, Lt}
+use Rattle.cudf_value.specs.declared.vpkg.Relop.{Relop}
+use Rattle.cudf_value.specs.declared.vpkg.Relop.TheVariants.{Eq, Neq, Geq, Gt, Leq, Lt}
 use Rattle.cudf_value.specs.Parts.{some_if}
 use Rattle.cudf_value.specs.Promises.Laws.{IsReadSpaced}
 use Rattle.cudf_value.specs.Words.{is_pkgname}

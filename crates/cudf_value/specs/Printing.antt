@@ -1,7 +1,7 @@
 -- How vpkgs, atoms and clauses are printed: spaces round an operator and round `|`, numbers without leading zeros (own).
 use Rattle.std.specs.Prelude.{ℕ, List, [], ◌++◌, Option, Some, None, codes, decimal}
 use Rattle.std.specs.List.{join_by}
-use Rattle.cudf_value.specs.declared.relop.Relop.{Relop}
+use Rattle.cudf_value.specs.declared.vpkg.Relop.{Relop}
 use Rattle.cudf_value.specs.Vpkgs.{PlainVpkg, relop_text}
 use Rattle.cudf_value.specs.Formulas.{PlainAtom, truth_atom, falsehood_atom, named}
 

@@ -1,7 +1,7 @@
 -- The types `vpkg` and `veqpkg` (the type library), and what a bound admits.
 use Rattle.std.specs.Prelude.{ℕ, Bool, true, false, not, ◌==◌, nat_lt, nat_le, List, [], ◌∷◌, length, take_while, find, Option, Some, None, option_map, option_and_then, bytes_eq, codes, if◌then◌else◌}
-use Rattle.cudf_value.specs.declared.relop.Relop.{Relop}
-use Rattle.cudf_value.specs.declared.relop.Relop.TheVariants.{Eq, Neq, Geq, Gt, Leq, Lt}
+use Rattle.cudf_value.specs.declared.vpkg.Relop.{Relop}
+use Rattle.cudf_value.specs.declared.vpkg.Relop.TheVariants.{Eq, Neq, Geq, Gt, Leq, Lt}
 use Rattle.cudf_text.specs.Chars.{trim_start, is_pkgname_char, is_operator_char, rest_after}
 use Rattle.cudf_value.specs.Parts.{some_if}
 use Rattle.cudf_value.specs.Numbers.{positive}

@@ -7,7 +7,7 @@ ghost use Rattle.cudf_value.specs.Vpkgs.{is_exact};
 ghost use Rattle.cudf_value.specs.Working.Rests.{parts_after};
 ghost use Rattle.cudf_value.specs.Working.Entries.{vpkg_part, first_part, ends_entry, entry_end};
 
-use crate::parts::cut;
+use crate::number::cut;
 use crate::vpkg::{Vpkg, is_exact, veqpkg_of, vpkg_at, vpkg_of};
 use cudf_text::scan::{after, first_byte};
 use cudf_text::trim;

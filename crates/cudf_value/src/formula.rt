@@ -8,7 +8,7 @@ ghost use Rattle.cudf_value.specs.Lists.{clauses_in, atoms_in};
 pub(crate) mod reading;
 
 use crate::atom::{Atom, first_atom, next_atom};
-use crate::parts::cut;
+use crate::number::cut;
 
 /// A conjunction; without clauses it holds always (own). Two are equal where their texts are.
 #[derive(Clone, Copy, Debug, PartialEq, Eq)]

@@ -7,7 +7,7 @@ ghost use Rattle.cudf_value.specs.Types.{types};
 ghost use Rattle.cudf_value.specs.Words.{is_pkgname};
 ghost use Rattle.cudf_value.specs.Promises.Laws.{IsCutAtCommas, IsMadeOfTokens, IsDeclaredSpaced, IsEnumDeclared, IsPosintBound, IsQuotableAsMade, IsReadBack, IsReadSpaced, PiecesJoinToText};
 
-use crate::relop::Relop;
+use crate::vpkg::Relop;
 
 /// What is printed of a vpkg of a `pkgname`, without a bound or with one whose number is at least 1, is read back as it.
 pub fn read_back(name: &str, bound: Option<(Relop, u64)>)

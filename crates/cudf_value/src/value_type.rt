@@ -6,10 +6,9 @@ ghost use Rattle.cudf_value.specs.Promises.Types.{type_view};
 ghost use Rattle.cudf_value.specs.Types.{is_of_type};
 
 use crate::formula::is_formula_text;
-use crate::number::{int_of, nat_of, posint_of};
+use crate::number::{bool_of, int_of, is_pkgname, nat_of, posint_of};
 use crate::vpkg::{veqpkg_of, vpkg_of};
 use crate::vpkglist::{is_veqpkglist_text, is_vpkglist_text};
-use crate::word::{bool_of, is_pkgname};
 use cudf_text::{is_ident, trim};
 use std::alloc::{AllocError, Global};
 

@@ -1,14 +1,19 @@
-//! The types `vpkg` and `veqpkg`.
-ghost use Rattle.std.specs.Prelude.{◌≡◌, option_map, length, ◌<◌, ◌≤◌, IfSome};
+//! The types `vpkg` and `veqpkg`, their operators, and how vpkgs, atoms and clauses are printed: spaces round an operator
+//! and round `|`.
+ghost use Rattle.std.specs.Prelude.{◌≡◌, option_map, length, ◌<◌, ◌≤◌, IfSome, Some};
 ghost use Rattle.cudf_text.specs.Chars.{trim};
-ghost use Rattle.cudf_value.specs.Promises.Views.{vpkg_view};
-ghost use Rattle.cudf_value.specs.Vpkgs.{vpkg, veqpkg, is_exact};
+ghost use Rattle.cudf_value.specs.Promises.Views.{vpkg_view, atom_view, clause_view};
+ghost use Rattle.cudf_value.specs.Vpkgs.{vpkg, veqpkg, is_exact, relop_text, relop, meets};
 ghost use Rattle.cudf_value.specs.Working.Rests.{BeginsWith, BoundBegins, vpkg_after};
+ghost use Rattle.cudf_value.specs.Printing.{vpkg_text, atom_text, clause_text};
 
+use crate::atom::Atom;
+use crate::formula::Clause;
 use crate::number::posint_of;
-use crate::relop::Relop;
 use cudf_text::scan::{Class, first_byte, split_run, trim_start};
 use cudf_text::trim;
+use itoa::Buffer;
+use std::fmt;
 
 /// A package or a feature by its name, at the versions that the bound admits, or at all (CUDF 2.0, the type library).
 #[derive(Clone, Copy, PartialEq, Eq, Hash)]
@@ -121,4 +126,115 @@ pub(crate) fn is_exact(bound: Option<(Relop, u64)>) -> bool
     ensures { result ≡ is_exact bound }
 {
     matches!(bound, None | Some((Relop::Eq, _)))
+}
+
+/// A relational operator of the type `vpkg`.
+#[derive(Clone, Copy, PartialEq, Eq, Hash)]
+pub enum Relop {
+    /// `=`
+    Eq,
+    /// `!=`
+    Neq,
+    /// `>=`
+    Geq,
+    /// `>`
+    Gt,
+    /// `<=`
+    Leq,
+    /// `<`
+    Lt,
+}
+
+impl Relop {
+    /// The operator as CUDF writes it.
+    pub fn symbol(self) -> &'static str
+        ensures { result.now ≡ relop_text self }
+    {
+        match self {
+            Relop::Eq => "=",
+            Relop::Neq => "!=",
+            Relop::Geq => ">=",
+            Relop::Gt => ">",
+            Relop::Leq => "<=",
+            Relop::Lt => "<",
+        }
+    }
+
+    /// The operator that is written so.
+    pub(crate) fn of_symbol(symbol: &str) -> Option<Relop>
+        ensures { result ≡ relop symbol.now }
+    {
+        match symbol {
+            "=" => Some(Relop::Eq),
+            "!=" => Some(Relop::Neq),
+            ">=" => Some(Relop::Geq),
+            ">" => Some(Relop::Gt),
+            "<=" => Some(Relop::Leq),
+            "<" => Some(Relop::Lt),
+            _ => None,
+        }
+    }
+}
+
+/// Whether the bound of a vpkg admits the number `n`; without a bound each number is admitted.
+pub fn meets(bound: Option<(Relop, u64)>, n: u64) -> bool
+    ensures { result ≡ meets bound n }
+{
+    match bound {
+        None => true,
+        Some((Relop::Eq, m)) => n == m,
+        Some((Relop::Neq, m)) => n != m,
+        Some((Relop::Geq, m)) => n >= m,
+        Some((Relop::Gt, m)) => n > m,
+        Some((Relop::Leq, m)) => n <= m,
+        Some((Relop::Lt, m)) => n < m,
+    }
+}
+
+/// `wheel`, or with a bound `wheel > 2`.
+impl fmt::Display for Vpkg<'_> {
+    ghost output = { λ v. Some (vpkg_text (vpkg_view v)) };
+
+    fn fmt<W: fmt::Write>(&self, f: &mut fmt::Formatter<W>) -> fmt::Result {
+        let name = self.name;
+        match self.bound {
+            None => write!(f, "{name}"),
+            Some((relop, number)) => {
+                let symbol = relop.symbol();
+                let mut buffer = Buffer::new();
+                let number = buffer.format(number);
+                write!(f, "{name} {symbol} {number}")
+            }
+        }
+    }
+}
+
+/// `true!`, `false!` or the vpkg.
+impl fmt::Display for Atom<'_> {
+    ghost output = { λ a. Some (atom_text (atom_view a)) };
+
+    fn fmt<W: fmt::Write>(&self, f: &mut fmt::Formatter<W>) -> fmt::Result {
+        match self {
+            Atom::Yes => write!(f, "true!"),
+            Atom::No => write!(f, "false!"),
+            Atom::Is(vpkg) => write!(f, "{vpkg}"),
+        }
+    }
+}
+
+/// The atoms with ` | ` between them.
+impl fmt::Display for Clause<'_> {
+    ghost output = { λ c. Some (clause_text (clause_view c)) };
+
+    fn fmt<W: fmt::Write>(&self, f: &mut fmt::Formatter<W>) -> fmt::Result {
+        let mut atoms = self.atoms();
+        let Some(first) = atoms.next() else {
+            return Ok(());
+        };
+        write!(f, "{first}")?;
+        for atom in atoms {
+            write!(f, " | {atom}")?;
+        }
+        Ok(())
+    }
 }

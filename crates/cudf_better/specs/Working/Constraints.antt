@@ -2,7 +2,7 @@
 use Rattle.std.specs.Prelude.{◌≡◌, ℕ, false, List, map}
 use Rattle.std.specs.List.{list_any}
 use Rattle.cudf_problem.specs.Universe.{PlainProblem}
-use Rattle.cudf_job.specs.declared.aims.Aim.{Aim}
+use Rattle.cudf_job.specs.declared.criteria.Aim.{Aim}
 use Rattle.cudf_job.specs.declared.criteria.Criteria.{Criteria}
 use Rattle.cudf_better.specs.declared.constraint.Constraint.{Constraint}
 use Rattle.cudf_better.specs.Better.{constraint_by, constraints}

@@ -5,8 +5,8 @@ use Rattle.cudf_device.specs.Outcomes.{Report}
 use Rattle.cudf_device.specs.declared.outcome.Outcome.{Outcome}
 use Rattle.cudf_calls.specs.Working.Rooms.{over}
 use Rattle.cudf_calls.specs.declared.front.Front.{Front}
-use Rattle.cudf_calls.specs.declared.stop.Stop.{Stop}
-use Rattle.cudf_calls.specs.declared.stop.Stop.TheVariants.{Memory}
+use Rattle.cudf_calls.specs.declared.carried.Stop.{Stop}
+use Rattle.cudf_calls.specs.declared.carried.Stop.TheVariants.{Memory}
 
 -- what it has taken is the report, after the name of the reference to the buffer and what the buffer held before: so a run changes neither. It never fails
 abbrev pub front_state : Front → SinkState

@@ -1,12 +1,12 @@
 -- What contracts see of what is asked about a solution.
 use Rattle.std.specs.Prelude.{ℕ, List, Option, None, Some, option_map}
 use Rattle.cudf_problem.specs.Universe.{PlainProblem}
-use Rattle.cudf_job.specs.declared.aims.Aim.{Aim}
+use Rattle.cudf_job.specs.declared.criteria.Aim.{Aim}
 use Rattle.cudf_job.specs.declared.criteria.Criteria.{Criteria}
 use Rattle.cudf_device.specs.Outcomes.{Report}
 use Rattle.cudf_check.specs.BetterReport.{cnf_better, refute_better}
 use Rattle.cudf_check.specs.Styles.{plainly}
-use Rattle.cudf_check.specs.declared.better_report.Question.{Question}
+use Rattle.cudf_check.specs.declared.judging.Question.{Question}
 
 -- the aims, and the proof, if there is one
 pub record PlainQuestion : Type 0 where

@@ -5,7 +5,7 @@ use Rattle.cudf_referee.specs.Proposals.{Proposal}
 use Rattle.cudf_check.specs.Report.{check_text, problem_report, scored_text, solution_report}
 use Rattle.cudf_check.specs.Styles.{Style}
 use Rattle.cudf_device.specs.Outcomes.{Report}
-use Rattle.cudf_problem.specs.declared.mode.Mode.{Mode}
+use Rattle.cudf_problem.specs.declared.problem.Mode.{Mode}
 use Rattle.cudf_job.specs.declared.job.Job.{Job}
 use Rattle.cudf_job.specs.declared.job.Job.TheVariants.{Check, Score}
 

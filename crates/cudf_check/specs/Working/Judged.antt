@@ -2,9 +2,9 @@
 use Rattle.std.specs.Prelude.{◌≡◌, ◌==◌, ℕ, Bool, List, [], slice_get, Option, None, Some, option_map}
 use Rattle.std.specs.Option.{option_map_or}
 use Rattle.cudf_text.specs.declared.fault.Fault.{Fault}
-use Rattle.cudf_problem.specs.declared.mode.Mode.{Mode}
-use Rattle.cudf_document.specs.declared.error.ReadError.{ReadError}
-use Rattle.cudf_document.specs.declared.error.ReadError.TheVariants as read_error
+use Rattle.cudf_problem.specs.declared.problem.Mode.{Mode}
+use Rattle.cudf_document.specs.declared.fault.ReadError.{ReadError}
+use Rattle.cudf_document.specs.declared.fault.ReadError.TheVariants as read_error
 use Rattle.cudf_problem.specs.Universe.{PlainProblem}
 use Rattle.cudf_check.specs.RankReport.{judgement, entrants, placed_faults}
 use Rattle.cudf_check.specs.Report.{faulty, solution_fault}

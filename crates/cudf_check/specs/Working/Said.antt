@@ -3,8 +3,8 @@ use Rattle.std.specs.Prelude.{ℕ, List}
 use Rattle.cudf_lrat.specs.Details.{detail_view}
 use Rattle.cudf_check.specs.Explanations.{format_text}
 use Rattle.cudf_check.specs.ProofDetails.{detail_text}
-use Rattle.cudf_check.specs.declared.lines.proof.Said.{Said}
-use Rattle.cudf_check.specs.declared.lines.proof.Said.TheVariants.{OfFormat, OfLine}
+use Rattle.cudf_check.specs.declared.lines.reasons.Said.{Said}
+use Rattle.cudf_check.specs.declared.lines.reasons.Said.TheVariants.{OfFormat, OfLine}
 
 abbrev pub said_text : Said → List ℕ
 said_text (OfFormat format) = format_text format

@@ -3,9 +3,9 @@ use Rattle.std.specs.Prelude.{◌≡◌, ℕ, true, List, Option, Some, None}
 use Rattle.std.specs.Option.{option_map_or}
 use Rattle.cudf_text.specs.declared.fault.Fault.{Fault}
 use Rattle.cudf_text.specs.Joined.{is_fail}
-use Rattle.cudf_document.specs.declared.error.ReadError.{ReadError}
-use Rattle.cudf_document.specs.declared.error.ReadError.TheVariants as read_error
-use Rattle.cudf_problem.specs.declared.mode.Mode.{Mode}
+use Rattle.cudf_document.specs.declared.fault.ReadError.{ReadError}
+use Rattle.cudf_document.specs.declared.fault.ReadError.TheVariants as read_error
+use Rattle.cudf_problem.specs.declared.problem.Mode.{Mode}
 use Rattle.cudf_check.specs.Report.{faulty, solution_fault}
 use Rattle.cudf_check.specs.Styles.{Document, Style}
 use Rattle.cudf_device.specs.Outcomes.{Report}

@@ -1,12 +1,12 @@
 //! Prints whether a solution can be bettered: the CNF, or what comes of a proof.
+ghost use Rattle.cudf_device.specs.Promises.PaperInside.{Prints};
 ghost use Rattle.cudf_check.specs.BetterReport.{best_text, cnf_better, refute_better};
 ghost use Rattle.cudf_check.specs.Report.{checked_report};
 ghost use Rattle.cudf_check.specs.Styles.{plainly};
-ghost use Rattle.cudf_device.specs.Promises.PaperInside.{Prints};
 
-use crate::lines::aims::print_aim_lines;
 use crate::lines::dimacs::print_dimacs;
-use crate::lines::proof::print_step_fault;
+use crate::lines::judged::print_aim_lines;
+use crate::lines::reasons::print_step_fault;
 use cudf_better::encoded;
 use cudf_device::{Outcome, Paper, Sink};
 use cudf_document::Problem;

@@ -1,15 +1,15 @@
 //! Prints what a document says beside its first fault.
 ghost use Rattle.std.specs.Prelude.{◌≡◌, ◌++◌, codes, decimal, option_map, is_some};
-ghost use Rattle.cudf_document.specs.Details.{invalid_byte, name_on, undeclared, mistyped};
 ghost use Rattle.cudf_problem.specs.Documents.{postmark_named};
+ghost use Rattle.cudf_document.specs.Details.{invalid_byte, name_on, undeclared, mistyped};
 ghost use Rattle.cudf_document.specs.Promises.Views.{detail_view};
+ghost use Rattle.cudf_device.specs.Promises.PaperInside.{Says};
 ghost use Rattle.cudf_check.specs.Explanations.{entry_added, format_text, value_added, unparted_added, misplaced_text, detail_added, detail_text};
 ghost use Rattle.cudf_check.specs.Naming.{line_in};
 ghost use Rattle.cudf_check.specs.Shown.{clipped};
 ghost use Rattle.cudf_check.specs.Working.Named.{origin_view};
-ghost use Rattle.cudf_device.specs.Promises.PaperInside.{Says};
 
-use crate::lines::shown::{print_byte, print_clipped};
+use crate::lines::naming::{print_byte, print_clipped};
 use crate::naming::{Origin, line_in};
 use cudf_device::{Paper, Sink};
 use cudf_document::{Detail, Format};

@@ -1,14 +1,14 @@
 //! Prints what the problem and the statuses say beside a violated instance.
 ghost use Rattle.std.specs.Prelude.{◌≡◌, ◌++◌, [], Some, codes, option_and_then, option_map, true};
 ghost use Rattle.cudf_problem.specs.Promises.Views.{package_view};
+ghost use Rattle.cudf_device.specs.Promises.PaperInside.{Says};
 ghost use Rattle.cudf_referee.specs.Promises.Views.{instance_view};
 ghost use Rattle.cudf_referee.specs.Explanations.{needed_by};
 ghost use Rattle.cudf_check.specs.Explanations.{stanza_text, explained, help_of, lacks_package, named_text, needed_added, needed_text, needer_text, number_text, numbers_added, status_added, unknown_added, would_do_text};
 ghost use Rattle.cudf_check.specs.Working.Named.{listed_by, origin_view};
-ghost use Rattle.cudf_device.specs.Promises.PaperInside.{Says};
 
 use crate::lines::instance::package_at;
-use crate::lines::listed::{Listed, print_listed};
+use crate::lines::naming::{Listed, print_listed};
 use cudf_device::{Paper, Sink};
 use cudf_document::Package;
 use cudf_referee::{Aspect, Explainer, Instance, Remedies, What};

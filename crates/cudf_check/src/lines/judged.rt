@@ -1,30 +1,28 @@
-//! The report of a judged solution: what was found, and the verdict.
+//! The report of a judged solution: what was found or counted, and the verdict.
 ghost use Rattle.std.specs.Prelude.{◌≡◌, ◌&&◌, not, IsTrue, false, map, option_map};
 ghost use Rattle.std.specs.FinSet as set;
 ghost use Rattle.std.specs.Str.{IsUtf8};
+ghost use Rattle.std.specs.List.{flat_map};
 ghost use Rattle.cudf_problem.specs.Statuses.{is_initial, ascend_above};
 ghost use Rattle.cudf_problem.specs.Promises.Views.{unknown_view};
+ghost use Rattle.cudf_device.specs.Promises.PaperInside.{Prints, Says};
+ghost use Rattle.cudf_job.specs.Aims.{count_row};
 ghost use Rattle.cudf_referee.specs.Proposals.{proposal};
 ghost use Rattle.cudf_referee.specs.Solutions.{is_solution};
-ghost use Rattle.cudf_check.specs.Report.{verdict, judged_report, scored_text};
+ghost use Rattle.cudf_check.specs.Report.{verdict, judged_report, scored_text, criteria_text, count_line, vector_line, aim_line};
 ghost use Rattle.cudf_check.specs.JobStyles.{explains, pair_style};
 ghost use Rattle.cudf_check.specs.Working.Found.{found_text};
 ghost use Rattle.cudf_check.specs.Working.Named.{instance_style, origins_view};
 ghost use Rattle.cudf_check.specs.Working.Pages.{Ascends};
-ghost use Rattle.cudf_device.specs.Promises.PaperInside.{Prints, Says};
 
-use crate::job::explains;
-use crate::lines::aims::print_aim_lines;
-use crate::lines::page::print_page;
-use crate::lines::score::print_score;
-use crate::lines::scribe::Scribe;
+use crate::lines::scribe::{Scribe, print_page};
 use crate::readings::lines_in;
-use crate::report::Inputs;
+use crate::report::{Inputs, explains};
 use cudf_device::{Outcome, Paper, Sink};
 use cudf_document::{Problem, Solution};
 use cudf_job::Job;
 use cudf_referee::laws::ascending;
-use cudf_referee::{Aim, Referee};
+use cudf_referee::{Aim, Count, Criteria, Referee};
 use std::alloc::{AllocError, Global};
 
 /// Prints the verdict, and answers its outcome.
@@ -134,4 +132,68 @@ fn print_by<W: Sink>(
     let lines = lines_in(alloc, explain, inputs.solution, problem)?;
     let scribe = Scribe::new(alloc, referee, explain, inputs.origins, &lines)?;
     Ok(print_judged(paper, &scribe, job))
+}
+
+/// Prints the line of a count.
+pub(crate) fn print_count<W: Sink>(paper: &mut Paper<'_, W>, name: &str, count: u64)
+    ensures { Says W.state paper.old paper.new (count_line name.now count) }
+{
+    paper.text(name);
+    paper.text(" ");
+    paper.number(count);
+    paper.text("\n");
+}
+
+/// Prints a line for each count.
+fn print_counts<W: Sink>(paper: &mut Paper<'_, W>, criteria: &Criteria, counts: &[Count])
+    ensures { Says W.state paper.old paper.new (flat_map (λ count. count_line (count_row count).0 ((count_row count).1 criteria.now)) counts.now) }
+{
+    for count in counts {
+        print_count(paper, count.text(), criteria.count(*count));
+    }
+}
+
+/// Prints the line of a vector.
+fn print_vector<W: Sink>(paper: &mut Paper<'_, W>, name: &str, counts: &[u64])
+    ensures { Says W.state paper.old paper.new (vector_line name.now counts.now) }
+{
+    paper.text(name);
+    for count in counts {
+        paper.text(" ");
+        paper.number(*count);
+    }
+    paper.text("\n");
+}
+
+/// Prints the lines of the counts, and those of the two vectors.
+pub(crate) fn print_score<W: Sink>(paper: &mut Paper<'_, W>, criteria: Criteria)
+    ensures { Says W.state paper.old paper.new (criteria_text criteria) }
+{
+    let counts = [
+        Count::Removed,
+        Count::New,
+        Count::Changed,
+        Count::NotUpToDate,
+        Count::UnsatRecommends,
+    ];
+    print_counts(paper, &criteria, &counts);
+    print_vector(paper, "paranoid", &criteria.paranoid());
+    print_vector(paper, "trendy", &criteria.trendy());
+}
+
+/// Prints the line of an aim.
+fn print_aim_line<W: Sink>(paper: &mut Paper<'_, W>, criteria: &Criteria, aim: Aim)
+    ensures { Says W.state paper.old paper.new (aim_line criteria.now aim) }
+{
+    paper.text(aim.sign.text());
+    print_count(paper, aim.count.text(), criteria.count(aim.count));
+}
+
+/// Prints a line for each aim.
+pub(crate) fn print_aim_lines<W: Sink>(paper: &mut Paper<'_, W>, criteria: &Criteria, aims: &[Aim])
+    ensures { Says W.state paper.old paper.new (flat_map (aim_line criteria.now) aims.now) }
+{
+    for aim in aims {
+        print_aim_line(paper, criteria, *aim);
+    }
 }

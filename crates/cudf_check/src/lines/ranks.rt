@@ -1,18 +1,16 @@
 //! The report of a ranking: a line for each solution, the best first; or the fault of one.
 ghost use Rattle.std.specs.Prelude.{◌++◌, None, codes, decimal, option_map};
 ghost use Rattle.std.specs.List.{enumerate_from, flat_map};
+ghost use Rattle.cudf_device.specs.Readers.{names_in};
+ghost use Rattle.cudf_device.specs.Promises.PaperInside.{Says};
 ghost use Rattle.cudf_check.specs.JobStyles.{named_style};
 ghost use Rattle.cudf_check.specs.Naming.{entrant_name, entrant_word, own_file};
 ghost use Rattle.cudf_check.specs.RankReport.{aim_count, judgement_text, rank_line};
 ghost use Rattle.cudf_check.specs.Report.{faulty};
 ghost use Rattle.cudf_check.specs.Styles.{of_solution};
 ghost use Rattle.cudf_check.specs.Working.Named.{entrants_style};
-ghost use Rattle.cudf_device.specs.Readers.{names_in};
-ghost use Rattle.cudf_device.specs.Promises.PaperInside.{Says};
 
-use crate::lines::alone::print_fault;
-use crate::lines::naming::print_before;
-use crate::lines::shown::print_shown;
+use crate::lines::naming::{print_before, print_fault, print_shown};
 use crate::naming::{name_at, own_file};
 use cudf_device::{Paper, Sink, Source};
 use cudf_job::{Entrant, Judgement};

@@ -1,7 +1,7 @@
 -- Clauses that a collector has taken.
 use Rattle.std.specs.Prelude.{◌≡◌, ◌<◌, ◌≤◌, ℕ, Bool, true, false, List, length, Option, Some, None}
 use Rattle.cudf_problem.specs.Universe.{PlainProblem}
-use Rattle.cudf_cnf.specs.declared.collector.Collector.{Collector}
+use Rattle.cudf_cnf.specs.declared.clauses.Collector.{Collector}
 use Rattle.cudf_cnf.specs.Cnf.{Keyed, cnf}
 use Rattle.cudf_cnf.specs.Encodings.{PlainKeyedClauses}
 

@@ -1,7 +1,7 @@
 -- Clauses as the code puts them: by places, and by the greatest number before.
 use Rattle.std.specs.Prelude.{◌≡◌, ◌<◌, ◌≤◌, ◌^◌, ℕ, Bool, true, false, not, ◌&&◌, ◌==◌, nat_lt, List, [], ◌∷◌, ◌++◌, map, All, Option, Some, None, if◌then◌else◌}
 use Rattle.std.specs.List.{list_any}
-use Rattle.cudf_value.specs.declared.relop.Relop.TheVariants.{Lt}
+use Rattle.cudf_value.specs.declared.vpkg.Relop.TheVariants.{Lt}
 use Rattle.cudf_problem.specs.Statuses.{is_initial}
 use Rattle.cudf_problem.specs.Universe.{PlainProblem}
 use Rattle.cudf_index.specs.Promises.Places.{at, gives_number, numbers_at, places_where}

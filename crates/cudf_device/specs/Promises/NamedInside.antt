@@ -1,7 +1,7 @@
 -- What a named source is made of: own.
 use Rattle.std.specs.Prelude.{ℕ, List, Option, option_map}
 use Rattle.cudf_device.specs.Device.{SourceState}
-use Rattle.cudf_device.specs.declared.named.Named.{Named}
+use Rattle.cudf_device.specs.declared.device.Named.{Named}
 
 -- the source under the name
 abbrev pub named_source : {S : Type 0} → Named S → S

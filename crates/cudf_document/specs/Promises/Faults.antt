@@ -1,8 +1,8 @@
 -- The first fault of a document, as its readers give it.
 use Rattle.std.specs.Prelude.{◌≡◌, List, Some}
 use Rattle.cudf_text.specs.declared.fault.Fault.{Fault}
-use Rattle.cudf_document.specs.declared.error.ReadError.{ReadError}
-use Rattle.cudf_document.specs.declared.error.ReadError.TheVariants as error
+use Rattle.cudf_document.specs.declared.fault.ReadError.{ReadError}
+use Rattle.cudf_document.specs.declared.fault.ReadError.TheVariants as error
 use Rattle.cudf_document.specs.Faults.{least}
 
 -- a document is refused for the least of its faults, or for want of memory

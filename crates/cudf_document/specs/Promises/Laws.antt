@@ -5,8 +5,8 @@ use Rattle.cudf_text.specs.declared.fault.Fault.{Fault}
 use Rattle.cudf_text.specs.declared.fault.Kind.{Kind}
 use Rattle.cudf_text.specs.declared.fault.Kind.TheVariants.{E8, E14, E15, E16}
 use Rattle.cudf_text.specs.Stanzas.{PlainStanza, PlainText, plain_text}
-use Rattle.cudf_problem.specs.declared.mode.Mode.{Mode}
-use Rattle.cudf_problem.specs.declared.mode.Mode.TheVariants.{Lenient, Strict}
+use Rattle.cudf_problem.specs.declared.problem.Mode.{Mode}
+use Rattle.cudf_problem.specs.declared.problem.Mode.TheVariants.{Lenient, Strict}
 use Rattle.cudf_text.specs.Faults.{precedes}
 use Rattle.cudf_document.specs.Faults.{least}
 use Rattle.cudf_problem.specs.Promises.Packages.{is_package, packages_in}

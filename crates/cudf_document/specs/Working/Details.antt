@@ -10,9 +10,9 @@ use Rattle.cudf_text.specs.Promises.Views.{stanza_view}
 use Rattle.cudf_value.specs.Parts.{look_up}
 use Rattle.cudf_value.specs.Spots.{pieces}
 use Rattle.cudf_value.specs.Declarations.{PlainDeclaration}
-use Rattle.cudf_problem.specs.declared.mode.Mode.TheVariants.{Strict}
-use Rattle.cudf_document.specs.declared.details.found.Passed.{Passed}
-use Rattle.cudf_document.specs.declared.details.found.Found.{Found}
+use Rattle.cudf_problem.specs.declared.problem.Mode.TheVariants.{Strict}
+use Rattle.cudf_document.specs.declared.details.Passed.{Passed}
+use Rattle.cudf_document.specs.declared.details.Found.{Found}
 use Rattle.cudf_problem.specs.Documents.{is_empty, postmark, is_request, has_name}
 use Rattle.cudf_problem.specs.Ids.{Id, id_of, is_known}
 use Rattle.cudf_problem.specs.Preamble.{declared}

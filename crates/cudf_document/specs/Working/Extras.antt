@@ -2,10 +2,10 @@
 use Rattle.std.specs.Prelude.{◌≡◌, ℕ, Bool, ◌||◌, List, bytes_eq, ◌++◌}
 use Rattle.std.specs.List.{list_any}
 use Rattle.cudf_text.specs.Stanzas.{PlainStanza}
-use Rattle.cudf_problem.specs.declared.mode.Mode.{Mode}
-use Rattle.cudf_problem.specs.declared.mode.Mode.TheVariants.{Strict}
+use Rattle.cudf_problem.specs.declared.problem.Mode.{Mode}
+use Rattle.cudf_problem.specs.declared.problem.Mode.TheVariants.{Strict}
 use Rattle.cudf_problem.specs.Preamble.{reserved_names, declared, declared_names}
-use Rattle.cudf_document.specs.declared.proposed.extras.Extras.{Extras}
+use Rattle.cudf_document.specs.declared.proposed.package.Extras.{Extras}
 use Rattle.cudf_document.specs.Working.Judging.{is_declared}
 
 -- a reserved name, or one of those that are known

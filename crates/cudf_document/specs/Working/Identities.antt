@@ -2,7 +2,7 @@
 use Rattle.std.specs.Prelude.{◌≡◌, List, Option, option_map, option_copied, find, codes}
 use Rattle.std.specs.Option.{option_zip}
 use Rattle.cudf_text.specs.Stanzas.{PlainProperty}
-use Rattle.cudf_document.specs.declared.package.identity.Identity.{Identity}
+use Rattle.cudf_document.specs.declared.package.Identity.{Identity}
 use Rattle.cudf_problem.specs.Documents.{has_name, value_of}
 use Rattle.cudf_problem.specs.Ids.{Id}
 use Rattle.cudf_problem.specs.Values.{name_value}

@@ -1,8 +1,8 @@
 -- The names that have no meaning in a stanza, by what document it is of.
 use Rattle.std.specs.Prelude.{ℕ, Bool, List, Option}
-use Rattle.cudf_problem.specs.declared.postmark.Postmark.{Postmark}
-use Rattle.cudf_document.specs.declared.misplaced.Document.{Document}
-use Rattle.cudf_document.specs.declared.misplaced.Document.TheVariants.{Problem, Solution}
+use Rattle.cudf_problem.specs.declared.problem.Postmark.{Postmark}
+use Rattle.cudf_document.specs.declared.names.Document.{Document}
+use Rattle.cudf_document.specs.declared.names.Document.TheVariants.{Problem, Solution}
 use Rattle.cudf_document.specs.ProblemFaults.{problem_misplaces}
 use Rattle.cudf_document.specs.SolutionFaults.{solution_misplaces}
 

@@ -10,9 +10,9 @@ use Rattle.cudf_value.specs.Promises.Views.{formula_view}
 use Rattle.cudf_value.specs.Declarations.{PlainDeclaration}
 use Rattle.cudf_problem.specs.declared.package.Keep.{Keep as PlainKeep}
 use Rattle.cudf_problem.specs.declared.package.Keep.TheVariants.{Nothing}
-use Rattle.cudf_document.specs.declared.package.property.PackageProperty.{PackageProperty}
-use Rattle.cudf_document.specs.declared.package.property.PackageProperty.TheVariants.{Depends, Conflicts, Provides, Installed, Keep, WasInstalled, Recommends}
-use Rattle.cudf_document.specs.declared.package.fields.PackageFields.{PackageFields}
+use Rattle.cudf_document.specs.declared.package.PackageProperty.{PackageProperty}
+use Rattle.cudf_document.specs.declared.package.PackageProperty.TheVariants.{Depends, Conflicts, Provides, Installed, Keep, WasInstalled, Recommends}
+use Rattle.cudf_document.specs.declared.package.PackageFields.{PackageFields}
 use Rattle.cudf_problem.specs.Documents.{value_of}
 use Rattle.cudf_problem.specs.Preamble.{recommends_in}
 use Rattle.cudf_problem.specs.Universe.{PlainPackage}

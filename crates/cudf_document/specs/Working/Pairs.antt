@@ -1,9 +1,9 @@
 -- What is known of the pairs of a solution while its stanzas are read.
 use Rattle.std.specs.Prelude.{◌≡◌, List, filter_map}
 use Rattle.cudf_text.specs.Stanzas.{PlainStanza}
-use Rattle.cudf_problem.specs.declared.mode.Mode.{Mode}
-use Rattle.cudf_problem.specs.declared.mode.Mode.TheVariants.{Strict}
-use Rattle.cudf_document.specs.declared.proposed.pairs.Pairs.{Pairs}
+use Rattle.cudf_problem.specs.declared.problem.Mode.{Mode}
+use Rattle.cudf_problem.specs.declared.problem.Mode.TheVariants.{Strict}
+use Rattle.cudf_document.specs.declared.proposed.Pairs.{Pairs}
 use Rattle.cudf_document.specs.Faults.{least}
 use Rattle.cudf_problem.specs.Ids.{Id, id_of, is_among}
 use Rattle.cudf_document.specs.SolutionFaults.{repeated_pairs_faults}

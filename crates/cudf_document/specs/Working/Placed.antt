@@ -3,7 +3,7 @@ use Rattle.std.specs.Prelude.{◌≡◌, ℕ, List, map, filter_map, Option, Som
 use Rattle.std.specs.FinSet as set
 use Rattle.cudf_text.specs.Stanzas.{PlainStanza}
 use Rattle.cudf_problem.specs.declared.solution.Solution.{Solution}
-use Rattle.cudf_document.specs.declared.solution.placed.Placed.{Placed}
+use Rattle.cudf_document.specs.declared.solution.Placed.{Placed}
 use Rattle.cudf_problem.specs.Ids.{Id, is_among}
 use Rattle.cudf_problem.specs.Universe.{PlainProblem, package_id}
 use Rattle.cudf_problem.specs.Statuses.{PlainUnknown, is_proposed, unknown_stanzas, ascend_above}

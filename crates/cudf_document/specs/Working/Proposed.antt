@@ -2,8 +2,8 @@
 use Rattle.std.specs.Prelude.{◌≡◌, ℕ, List, [], ◌++◌, map, length}
 use Rattle.std.specs.List.{flat_map}
 use Rattle.cudf_text.specs.Stanzas.{PlainStanza, PlainText}
-use Rattle.cudf_problem.specs.declared.mode.Mode.{Mode}
-use Rattle.cudf_document.specs.declared.proposed.reader.Reader.{Reader}
+use Rattle.cudf_problem.specs.declared.problem.Mode.{Mode}
+use Rattle.cudf_document.specs.declared.proposed.Reader.{Reader}
 use Rattle.cudf_document.specs.Faults.{least}
 use Rattle.cudf_document.specs.SolutionFaults.{solution_stanza_faults, solution_faults}
 use Rattle.cudf_problem.specs.Statuses.{PlainUnknown}

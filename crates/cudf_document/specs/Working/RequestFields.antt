@@ -5,9 +5,9 @@ use Rattle.cudf_text.specs.declared.fault.Kind.{Kind}
 use Rattle.cudf_text.specs.declared.fault.Kind.TheVariants.{E7, E9}
 use Rattle.cudf_text.specs.Stanzas.{PlainProperty}
 use Rattle.cudf_value.specs.Vpkgs.{PlainVpkg}
-use Rattle.cudf_document.specs.declared.request.lists.RequestProperty.{RequestProperty}
-use Rattle.cudf_document.specs.declared.request.lists.RequestProperty.TheVariants.{Install, Remove, Upgrade}
-use Rattle.cudf_document.specs.declared.request.lists.RequestFields.{RequestFields}
+use Rattle.cudf_document.specs.declared.problem.RequestProperty.{RequestProperty}
+use Rattle.cudf_document.specs.declared.problem.RequestProperty.TheVariants.{Install, Remove, Upgrade}
+use Rattle.cudf_document.specs.declared.problem.RequestFields.{RequestFields}
 use Rattle.cudf_problem.specs.Documents.{value_of}
 use Rattle.cudf_value.specs.Types.{can_be}
 use Rattle.cudf_document.specs.Working.Reads.{list_value}

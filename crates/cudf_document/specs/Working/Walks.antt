@@ -5,9 +5,9 @@ use Rattle.std.specs.List.{list_any, flat_map}
 use Rattle.cudf_text.specs.Stanzas.{PlainStanza, PlainText}
 use Rattle.cudf_text.specs.declared.fault.Fault.{Fault}
 use Rattle.cudf_value.specs.Declarations.{PlainDeclaration}
-use Rattle.cudf_problem.specs.declared.mode.Mode.{Mode}
-use Rattle.cudf_problem.specs.declared.postmark.Postmark.{Postmark}
-use Rattle.cudf_problem.specs.declared.postmark.Postmark.TheVariants.{Package}
+use Rattle.cudf_problem.specs.declared.problem.Mode.{Mode}
+use Rattle.cudf_problem.specs.declared.problem.Postmark.{Postmark}
+use Rattle.cudf_problem.specs.declared.problem.Postmark.TheVariants.{Package}
 use Rattle.cudf_document.specs.declared.problem.walk.Walk.{Walk}
 use Rattle.cudf_document.specs.Faults.{least}
 use Rattle.cudf_problem.specs.Documents.{is_empty, with_earlier, is_request}

@@ -5,11 +5,8 @@ ghost use Rattle.cudf_document.specs.Details.{byte_detail, fault_detail, source_
 ghost use Rattle.cudf_document.specs.Promises.Views.{detail_view};
 ghost use Rattle.cudf_document.specs.Working.Details.{is_of_pair, is_of_stanza};
 
-use crate::details::Detail;
-use crate::details::found::find_stanza;
-use crate::details::invalid::{empty, invalid, unread};
-use crate::details::of_stanza::told;
-use crate::details::pair::earlier_package;
+use crate::details::invalid::{earlier_package, empty, invalid, unread};
+use crate::details::{Detail, find_stanza, told};
 use cudf_text::{Fault, Kind, Room, Stanzas, source_of};
 use std::alloc::{AllocError, Global};
 

@@ -1,28 +1,23 @@
 //! The walk over a problem's stanzas, one at a time: their first fault, and what is kept of them.
 ghost use Rattle.std.specs.Prelude.{◌≡◌, Bool, not, ◌||◌, ◌&&◌, List, [], ◌∷◌, ◌++◌, Some, None, false, max, is_none, unwrap_or, IfOk, OnOk};
-ghost use Rattle.cudf_problem.specs.Preamble.{declared};
 ghost use Rattle.cudf_text.specs.Stanzas.{PlainStanza};
 ghost use Rattle.cudf_text.specs.Promises.Views.{stanza_view};
 ghost use Rattle.cudf_text.specs.declared.fault.Kind.TheVariants.{E11, E12};
-ghost use Rattle.cudf_document.specs.Faults.{least, fault_if};
+ghost use Rattle.cudf_problem.specs.Preamble.{declared};
 ghost use Rattle.cudf_problem.specs.Documents.{postmark, marks};
+ghost use Rattle.cudf_problem.specs.declared.problem.Postmark.TheVariants.{Preamble as PreambleMark, Package as PackageMark, Request as RequestMark};
+ghost use Rattle.cudf_document.specs.Faults.{least, fault_if};
 ghost use Rattle.cudf_document.specs.Working.Judging.{properties_faults, placed_faults};
 ghost use Rattle.cudf_document.specs.Working.Identities.{IsIdentity};
 ghost use Rattle.cudf_document.specs.Working.SeenNames.{AreNames};
 ghost use Rattle.cudf_document.specs.Working.Kept.{AreParts};
 ghost use Rattle.cudf_document.specs.Working.Walks.{texts, IsSoFar, IsWhole};
-ghost use Rattle.cudf_problem.specs.declared.postmark.Postmark.TheVariants.{Preamble as PreambleMark, Package as PackageMark, Request as RequestMark};
 
-use crate::declarations::Declarations;
-use crate::declarations::preamble::read_preamble;
-use crate::declarations::required::{lacks_one, require};
+use crate::declarations::{Declarations, lacks_one, read_preamble, require};
 use crate::fault::{fault_if, keep_lesser, lesser};
-use crate::misplaced::{Document, misplaced_fault};
-use crate::names::SeenNames;
-use crate::package::identity::Identity;
-use crate::postmark::{is_preamble, postmark_of};
-use crate::problem::keeping::Parts;
-use crate::problem::name_room::Names;
+use crate::names::{Document, SeenNames, is_preamble, misplaced_fault, postmark_of};
+use crate::package::Identity;
+use crate::problem::keeping::{Names, Parts};
 use cudf_problem::{Ids, Mode, Postmark};
 use cudf_text::{Fault, Kind, Next, StanzaRef, Stanzas};
 use std::alloc::{AllocError, Global};
@@ -108,7 +103,7 @@ impl<'a> Walk<'a> {
     ghost use Rattle.cudf_problem.specs.Preamble.{declared, declared_after};
     ghost use Rattle.cudf_document.specs.ProblemFaults.{required_names, problem_misplaces, misplaced_faults};
     ghost use Rattle.cudf_document.specs.Working.Judging.{properties_faults};
-    ghost use Rattle.cudf_problem.specs.declared.postmark.Postmark.TheVariants.{Preamble as PreambleMark, Package as PackageMark};
+    ghost use Rattle.cudf_problem.specs.declared.problem.Postmark.TheVariants.{Preamble as PreambleMark, Package as PackageMark};
 
     /// No stanza.
     pub(crate) fn new(alloc: Global) -> Self

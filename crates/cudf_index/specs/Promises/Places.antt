@@ -1,7 +1,7 @@
 -- Which packages of a status are answered (own).
 use Rattle.std.specs.Prelude.{ℕ, Bool, ◌==◌, Option, List, [], ◌∷◌, map, filter, bytes_eq}
 use Rattle.std.specs.List.{list_any}
-use Rattle.cudf_value.specs.declared.relop.Relop.{Relop}
+use Rattle.cudf_value.specs.declared.vpkg.Relop.{Relop}
 use Rattle.cudf_value.specs.Vpkgs.{meets}
 use Rattle.cudf_index.specs.Satisfaction.{Placed, numbers_of}
 

@@ -1,8 +1,8 @@
 -- The numbers of packages, as they are counted (own).
 use Rattle.std.specs.Prelude.{ℕ, Bool, ◌==◌, ◌-◌, List, [], ◌∷◌, length, Option, Some, None}
 use Rattle.std.specs.List.{count_by}
-use Rattle.cudf_value.specs.declared.relop.Relop.{Relop}
-use Rattle.cudf_value.specs.declared.relop.Relop.TheVariants.{Eq, Neq, Geq, Gt, Leq, Lt}
+use Rattle.cudf_value.specs.declared.vpkg.Relop.{Relop}
+use Rattle.cudf_value.specs.declared.vpkg.Relop.TheVariants.{Eq, Neq, Geq, Gt, Leq, Lt}
 use Rattle.cudf_value.specs.Vpkgs.{meets}
 
 -- the number, where there is one alone

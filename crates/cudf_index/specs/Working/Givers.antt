@@ -2,18 +2,18 @@
 use Rattle.std.specs.Prelude.{◌≡◌, ℕ, ◌==◌, ◌+◌, ◌*◌, ◌-◌, ◌≤◌, Bool, false, not, List, [], ◌∷◌, ◌++◌, filter_map, length, Option, if◌then◌else◌, option_to_list, slice_get}
 use Rattle.std.specs.List.{count_by, list_any}
 use Rattle.std.specs.Option.{option_map_or}
-use Rattle.cudf_value.specs.declared.relop.Relop.{Relop}
+use Rattle.cudf_value.specs.declared.vpkg.Relop.{Relop}
 use Rattle.cudf_index.specs.Promises.Counts.{count_pairs, differ}
 use Rattle.cudf_index.specs.Promises.Places.{gives_number}
 use Rattle.cudf_index.specs.Satisfaction.{Placed, is_below_one, meets_alone}
 use Rattle.cudf_index.specs.Working.Extents.{count_over, is_same, sole_number}
 use Rattle.cudf_index.specs.Working.Wanted.{passes}
 use Rattle.cudf_index.specs.declared.index.extents.Extents.{Extents}
-use Rattle.cudf_index.specs.declared.index.unsorted.Unsorted.{Unsorted}
+use Rattle.cudf_index.specs.declared.index.counts.Unsorted.{Unsorted}
 use Rattle.cudf_index.specs.declared.index.gathered_names.Provision.{Provision}
-use Rattle.cudf_index.specs.declared.index.givers.Gathering.{Gathering}
-use Rattle.cudf_index.specs.declared.index.givers.Givers.{Givers}
-use Rattle.cudf_index.specs.declared.index.wanted.Wanted.TheVariants.{Meeting, Number}
+use Rattle.cudf_index.specs.declared.index.counts.Gathering.{Gathering}
+use Rattle.cudf_index.specs.declared.index.counts.Givers.{Givers}
+use Rattle.cudf_index.specs.declared.index.named_trees.Wanted.TheVariants.{Meeting, Number}
 
 -- ---- a row by packages
 

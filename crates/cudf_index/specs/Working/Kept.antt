@@ -5,7 +5,7 @@ use Rattle.std.specs.List.Sorted.{IsNonDecreasing}
 use Rattle.std.specs.Option.{option_map_or}
 use Rattle.cudf_value.specs.Vpkgs.{PlainVpkg}
 use Rattle.cudf_index.specs.Satisfaction.{Placed, entry_pair, unversioned_name, is_met_by, numbers_of, gives_all_versions, satisfies, without}
-use Rattle.cudf_index.specs.declared.index.entries.Entries.{Entries}
+use Rattle.cudf_index.specs.declared.index.gathered_names.Entries.{Entries}
 
 -- the row of the first key that passes the test
 abbrev pub found : {K R : Type 0} → (K → Bool) → List K → List R → Option R

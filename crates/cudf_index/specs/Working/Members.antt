@@ -1,6 +1,6 @@
 -- How an index keeps the packages of a status (own).
 use Rattle.std.specs.Prelude.{ℕ, Bool, true, not, ◌&&◌, ◌==◌, List, min, bytes_eq, Option, Some, None, if◌then◌else◌}
-use Rattle.cudf_value.specs.declared.relop.Relop.{Relop}
+use Rattle.cudf_value.specs.declared.vpkg.Relop.{Relop}
 use Rattle.cudf_value.specs.Vpkgs.{PlainVpkg, meets}
 use Rattle.cudf_problem.specs.Promises.Views.{package_view}
 use Rattle.cudf_index.specs.Satisfaction.{Placed, is_below_one}

@@ -1,7 +1,7 @@
 -- Numbers of a name (own).
 use Rattle.std.specs.Prelude.{ℕ, List, [], ◌∷◌}
-use Rattle.cudf_index.specs.declared.index.numbers.Numbers.{Numbers}
-use Rattle.cudf_index.specs.declared.index.numbers.Numbers.TheVariants.{One, Two, Others}
+use Rattle.cudf_index.specs.declared.index.sorted.Numbers.{Numbers}
+use Rattle.cudf_index.specs.declared.index.sorted.Numbers.TheVariants.{One, Two, Others}
 
 abbrev pub numbers_in : Numbers → List ℕ
 numbers_in (One n) = n ∷ []

@@ -2,16 +2,16 @@
 use Rattle.std.specs.Prelude.{◌≡◌, ℕ, ◌==◌, Bool, true, false, ◌&&◌, ◌||◌, nat_lt, nat_le, List, [], ◌∷◌, ◌++◌, Option, Some, None}
 use Rattle.std.specs.List.{list_any}
 use Rattle.cudf_value.specs.Promises.Views.{vpkg_view}
-use Rattle.cudf_value.specs.declared.relop.Relop.{Relop}
-use Rattle.cudf_value.specs.declared.relop.Relop.TheVariants.{Eq, Neq, Geq, Gt, Leq, Lt}
+use Rattle.cudf_value.specs.declared.vpkg.Relop.{Relop}
+use Rattle.cudf_value.specs.declared.vpkg.Relop.TheVariants.{Eq, Neq, Geq, Gt, Leq, Lt}
 use Rattle.cudf_value.specs.declared.vpkg.Vpkg.{Vpkg}
 use Rattle.cudf_index.specs.Satisfaction.{Placed, meets_alone}
 use Rattle.cudf_index.specs.Working.Gathering.{given_by}
 use Rattle.cudf_index.specs.Working.Places.{has, passes_at}
 use Rattle.cudf_index.specs.Working.Wanted.{passes}
 use Rattle.cudf_index.specs.declared.index.gathered_names.Provision.{Provision}
-use Rattle.cudf_index.specs.declared.index.wanted.Wanted.{Wanted}
-use Rattle.cudf_index.specs.declared.index.wanted.Wanted.TheVariants.{Meeting, Number}
+use Rattle.cudf_index.specs.declared.index.named_trees.Wanted.{Wanted}
+use Rattle.cudf_index.specs.declared.index.named_trees.Wanted.TheVariants.{Meeting, Number}
 
 -- the place is there, or the package at it answers one of the questions
 abbrev pub will_have : List ℕ → List Vpkg → List Placed → ℕ → Bool

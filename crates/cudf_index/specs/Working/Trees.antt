@@ -1,10 +1,10 @@
 -- The provisions of a name in the order of their places, in halves (own).
 use Rattle.std.specs.Prelude.{◌<◌, ◌≤◌, ◌+◌, List, ◌++◌, length}
 use Rattle.cudf_index.specs.Working.Gathering.{Completes}
-use Rattle.cudf_index.specs.declared.index.entries.Entries.{Entries}
+use Rattle.cudf_index.specs.declared.index.gathered_names.Entries.{Entries}
 use Rattle.cudf_index.specs.declared.index.gathered_names.Provision.{Provision}
-use Rattle.cudf_index.specs.declared.index.tree.Node.{Node}
-use Rattle.cudf_index.specs.declared.index.tree.Node.TheVariants.{Few, Halves}
+use Rattle.cudf_index.specs.declared.index.named_trees.Node.{Node}
+use Rattle.cudf_index.specs.declared.index.named_trees.Node.TheVariants.{Few, Halves}
 
 abbrev pub provisions : Node → List Provision
 provisions (Few row) = row.items

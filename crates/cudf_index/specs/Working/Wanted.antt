@@ -5,10 +5,10 @@ use Rattle.std.specs.Option.{option_map_or}
 use Rattle.cudf_value.specs.Vpkgs.{meets}
 use Rattle.cudf_index.specs.Satisfaction.{is_below_one}
 use Rattle.cudf_index.specs.Working.FirstPlaces.{number_meets}
-use Rattle.cudf_index.specs.declared.index.entries.Entries.{Entries}
+use Rattle.cudf_index.specs.declared.index.gathered_names.Entries.{Entries}
 use Rattle.cudf_index.specs.declared.index.gathered_names.Provision.{Provision}
-use Rattle.cudf_index.specs.declared.index.wanted.Wanted.{Wanted}
-use Rattle.cudf_index.specs.declared.index.wanted.Wanted.TheVariants.{Meeting, Number, Version}
+use Rattle.cudf_index.specs.declared.index.named_trees.Wanted.{Wanted}
+use Rattle.cudf_index.specs.declared.index.named_trees.Wanted.TheVariants.{Meeting, Number, Version}
 
 -- the provision is wanted
 abbrev pub passes : Wanted → Provision → Bool

@@ -1,17 +1,22 @@
 //! What the packages of a status give, gathered by name.
-ghost use Rattle.std.specs.Prelude.{◌≡◌, ◌<◌, ℕ, List, Some, [], ◌∷◌, ◌++◌, ◌||◌, map, filter_map, length, false, bytes_eq, cond, OnOk, IfOk, slice_get, option_to_list};
-ghost use Rattle.std.specs.List.{position_or_len, list_any};
+ghost use Rattle.std.specs.Prelude.{◌≡◌, ◌<◌, ℕ, List, Some, [], ◌∷◌, ◌++◌, ◌||◌, map, filter_map, length, false, bytes_eq, cond, OnOk, IfOk, slice_get, option_to_list, ◌≤◌, ◌+◌, ◌*◌, nat_lt, if◌then◌else◌};
+ghost use Rattle.std.specs.List.{position_or_len, list_any, count_by};
 ghost use Rattle.cudf_value.specs.Promises.Views.{list_view};
+ghost use Rattle.cudf_value.specs.Vpkgs.{meets};
 ghost use Rattle.cudf_index.specs.Working.Gathering.{row_of, row_items, has_row, AreFilled, given_by, provisions_of, sole_place, Completes, CompletesAt};
 ghost use Rattle.cudf_index.specs.Working.Members.{member_view};
+ghost use Rattle.cudf_index.specs.Promises.Prices.{digits};
+ghost use Rattle.cudf_index.specs.Satisfaction.{is_below_one};
+ghost use Rattle.cudf_index.specs.Working.Rows.{provisions_in};
 
-use crate::index::entries::Entries;
 use crate::index::member::Member;
-use crate::index::row::Row;
 use crate::index::sorted::Sorted;
-use cudf_value::VpkgList;
+use crate::steps::Steps;
+use cudf_value::{Relop, VpkgList};
 use indexmap::IndexSet;
 use std::alloc::{AllocError, Global};
+use std::marker::Model;
+use std::slice;
 
 /// What a package gives of a name: a number, or all versions.
 #[derive(Clone, Copy)]
@@ -228,5 +233,162 @@ pub(crate) fn push_some(numbers: &mut Vec<u64>, number: Option<u64>) -> Result<(
             Ok(())
         }
         None => Ok(()),
+    }
+}
+
+/// What a status gives of a name: the numbers, ascending and with repeats, how many unversioned
+/// provisions, the place of the package that alone gives it, if one does, and whether one of the
+/// packages that give it has the name.
+#[derive(Drop)]
+pub(crate) struct Entries {
+    pub(crate) numbers: Sorted,
+    pub(crate) unversioned: usize,
+    pub(crate) sole: Option<u64>,
+    pub(crate) is_package: bool,
+}
+
+/// How many provisions of a name meet a bound: numbers, and unversioned provisions.
+#[derive(Clone, Copy)]
+pub(crate) struct Met {
+    pub(crate) numbers: usize,
+    pub(crate) unversioned: usize,
+}
+
+impl Met {
+    pub(crate) fn none() -> Self
+        ensures { result ≡ record { numbers = 0; unversioned = 0 } }
+    {
+        Met {
+            numbers: 0,
+            unversioned: 0,
+        }
+    }
+
+    /// Whether there are more of one kind than those of a package.
+    pub(crate) fn exceeds(self, own: Met) -> bool
+        ensures { result ≡ (nat_lt own.numbers self.numbers || nat_lt own.unversioned self.unversioned) }
+    {
+        self.numbers > own.numbers || self.unversioned > own.unversioned
+    }
+}
+
+impl Entries {
+    /// Whether one of them meets the bound.
+    pub(crate) fn any(&self, bound: Option<(Relop, u64)>, steps: &mut Steps) -> bool
+        ensures answer { result ≡ (nat_lt 0 (count_by (meets bound) self.now.numbers) || nat_lt 0 (if is_below_one bound then 0 else self.now.unversioned)) }
+        ensures price { steps.new ≤ steps.old + 2 * digits (length self.now.numbers) }
+        ensures grows { steps.old ≤ steps.new }
+    {
+        self.numbers.any(bound, steps) || self.unversioned_met(bound) > 0
+    }
+
+    /// How many of them meet the bound.
+    pub(crate) fn met(&self, bound: Option<(Relop, u64)>, steps: &mut Steps) -> Met
+        ensures numbers { result.numbers ≡ count_by (meets bound) self.now.numbers }
+        ensures unversioned { result.unversioned ≡ (if is_below_one bound then 0 else self.now.unversioned) }
+        ensures price { steps.new ≤ steps.old + 2 * digits (length self.now.numbers) }
+        ensures grows { steps.old ≤ steps.new }
+    {
+        Met {
+            numbers: self.numbers.count(bound, steps),
+            unversioned: self.unversioned_met(bound),
+        }
+    }
+
+    /// How many of those without a number meet the bound.
+    fn unversioned_met(&self, bound: Option<(Relop, u64)>) -> usize
+        ensures { result ≡ (if is_below_one bound then 0 else self.now.unversioned) }
+    {
+        if is_below_one(bound) {
+            0
+        } else {
+            self.unversioned
+        }
+    }
+}
+
+/// Whether the bound is `< 1`, which no version meets.
+pub(crate) fn is_below_one(bound: Option<(Relop, u64)>) -> bool
+    ensures { result ≡ is_below_one bound }
+{
+    matches!(bound, Some((Relop::Lt, 1)))
+}
+
+/// The provisions of a name, in the order in which they came.
+#[derive(Drop)]
+pub(crate) struct Row {
+    provisions: Provisions,
+}
+
+/// One or two, as most names have, take no memory of their own.
+#[derive(Drop)]
+enum Provisions {
+    One(Provision),
+    Two([Provision; 2]),
+    Others(Vec<Provision>),
+}
+
+impl Model for Row {
+    ghost use Rattle.std.specs.Prelude.{List};
+    ghost use Rattle.cudf_index.specs.Working.Rows.{provisions_in};
+    ghost use Rattle.cudf_index.specs.declared.index.gathered_names.Provision.{Provision};
+
+    ghost Value = { List Provision };
+
+    ghost view = { λ r. provisions_in r.provisions };
+}
+
+impl Row {
+    /// No provisions.
+    pub(crate) fn none(alloc: Global) -> Self
+        ensures { result ≡ [] }
+    {
+        Row {
+            provisions: Provisions::Others(Vec::new(alloc)),
+        }
+    }
+
+    pub(crate) fn as_slice(&self) -> &[Provision]
+        ensures { result.now ≡ self.now }
+    {
+        match &self.provisions {
+            Provisions::One(provision) => slice::from_ref(provision),
+            Provisions::Two(both) => both,
+            Provisions::Others(others) => others.as_slice(),
+        }
+    }
+
+    /// Adds a provision after the others.
+    pub(crate) fn push(&mut self, alloc: Global, provision: Provision) -> Result<(), AllocError>
+        ensures { OnOk result (self.new ≡ self.old ++ provision ∷ []) }
+    {
+        if let Provisions::Others(others) = &mut self.provisions {
+            if !others.is_empty() {
+                others.push(provision)?;
+                return Ok(());
+            }
+        }
+        self.provisions = extended(alloc, self.as_slice(), provision)?;
+        Ok(())
+    }
+}
+
+/// These provisions and one more.
+fn extended(
+    alloc: Global,
+    row: &[Provision],
+    provision: Provision,
+) -> Result<Provisions, AllocError>
+    ensures { IfOk result (λ p. provisions_in p ≡ row.now ++ provision ∷ []) }
+{
+    match row {
+        [] => Ok(Provisions::One(provision)),
+        [first] => Ok(Provisions::Two([*first, provision])),
+        _ => {
+            let mut others = Vec::with_capacity(alloc, row.len() + 1)?;
+            others.extend_from_slice(row)?;
+            others.push(provision)?;
+            Ok(Provisions::Others(others))
+        }
     }
 }

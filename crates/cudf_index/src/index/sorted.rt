@@ -1,18 +1,19 @@
-//! Numbers in ascending order, to be counted.
+//! Numbers in ascending order, to be counted; mostly there are one or two.
 ghost use Rattle.std.specs.Prelude.{◌≡◌, ◌==◌, ◌<◌, ◌≤◌, ◌+◌, ◌*◌, ℕ, Bool, Some, [], ◌∷◌, nat_lt, nat_le, length, slice_index_or};
 ghost use Rattle.std.specs.List.{count_by};
 ghost use Rattle.std.specs.List.Sorted.{IsNonDecreasing, IsPermutation};
-ghost use Rattle.cudf_value.specs.declared.relop.Relop.TheVariants.{Eq};
+ghost use Rattle.cudf_value.specs.declared.vpkg.Relop.TheVariants.{Eq};
 ghost use Rattle.cudf_value.specs.Vpkgs.{meets};
 ghost use Rattle.cudf_index.specs.Promises.Members.{IsLeast, IsGreatest};
 ghost use Rattle.cudf_index.specs.Promises.Prices.{digits};
 ghost use Rattle.cudf_index.specs.Working.Ends.{StandsUnder};
+ghost use Rattle.cudf_index.specs.Working.Numbers.{numbers_in};
 
-use crate::index::numbers::Numbers;
 use crate::steps::Steps;
 use cudf_value::{Relop, meets};
 use std::alloc::Global;
 use std::marker::Model;
+use std::slice;
 
 /// Numbers in ascending order, with repeats.
 #[derive(Drop)]
@@ -227,5 +228,39 @@ impl Sorted {
     {
         steps.tick();
         self.numbers.as_slice()[place]
+    }
+}
+
+/// Numbers in their order. One or two, as most names have, are next to what else is kept of the
+/// name, so that a look at them goes to no other block of memory.
+#[derive(Drop)]
+pub(crate) enum Numbers {
+    One(u64),
+    Two([u64; 2]),
+    Others(Vec<u64>),
+}
+
+impl Numbers {
+    ghost use Rattle.std.specs.Prelude.{◌≡◌};
+    ghost use Rattle.cudf_index.specs.Working.Numbers.{numbers_in};
+
+    pub(crate) fn new(numbers: Vec<u64>) -> Self
+        ensures { numbers_in result ≡ numbers.items }
+    {
+        match numbers.as_slice() {
+            [number] => Numbers::One(*number),
+            [first, second] => Numbers::Two([*first, *second]),
+            _ => Numbers::Others(numbers),
+        }
+    }
+
+    pub(crate) fn as_slice(&self) -> &[u64]
+        ensures { result.now ≡ numbers_in self.now }
+    {
+        match self {
+            Numbers::One(number) => slice::from_ref(number),
+            Numbers::Two(both) => both,
+            Numbers::Others(numbers) => numbers.as_slice(),
+        }
     }
 }

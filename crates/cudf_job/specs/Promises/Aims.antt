@@ -2,11 +2,11 @@
 use Rattle.std.specs.Prelude.{ℕ, List, [], ◌∷◌, ◌++◌, map, find, Option, bytes_eq}
 use Rattle.std.specs.Str.{byte}
 use Rattle.cudf_value.specs.Parts.{read_parts}
-use Rattle.cudf_job.specs.declared.aims.Aim.{Aim}
+use Rattle.cudf_job.specs.declared.criteria.Aim.{Aim}
 use Rattle.cudf_job.specs.declared.criteria.Count.{Count}
 use Rattle.cudf_job.specs.declared.criteria.Count.TheVariants.{Removed, New, Changed, NotUpToDate, UnsatRecommends, Touched}
-use Rattle.cudf_job.specs.declared.aims.Sign.{Sign}
-use Rattle.cudf_job.specs.declared.aims.Sign.TheVariants.{Least, Most}
+use Rattle.cudf_job.specs.declared.criteria.Sign.{Sign}
+use Rattle.cudf_job.specs.declared.criteria.Sign.TheVariants.{Least, Most}
 use Rattle.cudf_job.specs.Aims.{aim_text}
 
 abbrev pub all_counts : List Count

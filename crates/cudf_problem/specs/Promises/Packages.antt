@@ -7,7 +7,7 @@ use Rattle.cudf_text.specs.Stanzas.{PlainStanza}
 use Rattle.cudf_value.specs.Formulas.{PlainAtom}
 use Rattle.cudf_problem.specs.Universe.{PlainPackage, PlainProblem, package_of, package_at}
 use Rattle.cudf_problem.specs.Preamble.{declared}
-use Rattle.cudf_problem.specs.declared.postmark.Postmark.TheVariants.{Preamble, Package}
+use Rattle.cudf_problem.specs.declared.problem.Postmark.TheVariants.{Preamble, Package}
 use Rattle.cudf_problem.specs.Documents.{with_earlier, postmark, marks}
 use Rattle.cudf_problem.specs.Ids.{Id, is_id, is_among}
 

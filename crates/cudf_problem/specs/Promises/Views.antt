@@ -2,9 +2,9 @@
 use Rattle.std.specs.Prelude.{option_map}
 use Rattle.cudf_value.specs.Promises.Views.{formula_view, list_view}
 use Rattle.cudf_problem.specs.declared.package.Package.{Package}
-use Rattle.cudf_problem.specs.declared.request.Request.{Request}
+use Rattle.cudf_problem.specs.declared.problem.Request.{Request}
 use Rattle.cudf_problem.specs.Universe.{PlainPackage, PlainRequest}
-use Rattle.cudf_problem.specs.declared.unknown.Unknown.{Unknown}
+use Rattle.cudf_problem.specs.declared.solution.Unknown.{Unknown}
 use Rattle.cudf_problem.specs.Statuses.{PlainUnknown}
 
 abbrev pub package_view : Package → PlainPackage

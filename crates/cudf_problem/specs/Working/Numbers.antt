@@ -2,7 +2,7 @@
 use Rattle.std.specs.Prelude.{◌≡◌, ℕ, ◌<◌, ◌==◌, Bool, ◌&&◌, List, [], length, map, position, slice_get, slice_index_or, bytes_eq, Option, Some, None, if◌then◌else◌}
 use Rattle.std.specs.Borrow.{Bor}
 use Rattle.indexmap.specs.IndexMap.{IndexMap, get}
-use Rattle.cudf_problem.specs.declared.package.ids.Numbered.{Numbered}
+use Rattle.cudf_problem.specs.declared.package.Numbered.{Numbered}
 use Rattle.cudf_problem.specs.Ids.{Id}
 use Rattle.cudf_problem.specs.Promises.Names.{names_of_ids}
 

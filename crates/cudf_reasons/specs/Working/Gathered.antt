@@ -7,7 +7,7 @@ use Rattle.cudf_lrat.specs.declared.cnf.Literal.{Literal}
 use Rattle.cudf_reasons.specs.Laws.{keys_of}
 use Rattle.cudf_reasons.specs.Reasons.{is_of, negative_places, same_key}
 use Rattle.cudf_reasons.specs.Views.{needed_view}
-use Rattle.cudf_reasons.specs.declared.needed.Needed.{Needed}
+use Rattle.cudf_reasons.specs.declared.gathering.Needed.{Needed}
 
 abbrev pub literals_in : List Needed → List (List Literal)
 literals_in needed = map (λ n. n.literals.now) needed

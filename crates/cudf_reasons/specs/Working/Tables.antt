@@ -4,7 +4,7 @@ use Rattle.cudf_job.specs.Working.Keys.{unknown_key}
 use Rattle.cudf_job.specs.KeyViews.{key_view}
 use Rattle.cudf_reasons.specs.Reasons.{PlainReason}
 use Rattle.cudf_reasons.specs.Views.{Told, told_as}
-use Rattle.cudf_reasons.specs.declared.table.Row.{Row}
+use Rattle.cudf_reasons.specs.declared.gathering.Row.{Row}
 
 -- the reason of a row
 abbrev pub reason_in : List ℕ → Row → PlainReason

@@ -3,9 +3,9 @@ use Rattle.std.specs.Prelude.{◌≡◌, ℕ, ◌<◌, ◌≤◌, Bool, true, fa
 use Rattle.cudf_job.specs.Keys.{ascend}
 use Rattle.cudf_reasons.specs.Reasons.{PlainReason, is_asked, is_kept, is_brought_by, is_new}
 use Rattle.cudf_reasons.specs.Working.Tables.{reason_at}
-use Rattle.cudf_reasons.specs.declared.table.Root.{Root}
-use Rattle.cudf_reasons.specs.declared.table.Root.TheVariants.{Asked, Kept, Any}
-use Rattle.cudf_reasons.specs.declared.table.Run.{Run}
+use Rattle.cudf_reasons.specs.declared.gathering.Root.{Root}
+use Rattle.cudf_reasons.specs.declared.gathering.Root.TheVariants.{Asked, Kept, Any}
+use Rattle.cudf_reasons.specs.declared.gathering.Run.{Run}
 
 abbrev pub is_root : Root → PlainReason → Bool
 is_root Asked reason = is_asked reason

@@ -1,6 +1,6 @@
 -- What contracts see of a position in the walk: own.
-use Rattle.cudf_referee.specs.declared.position.Position.{Position}
-use Rattle.cudf_referee.specs.declared.position.Position.TheVariants.{Start, At, End}
+use Rattle.cudf_referee.specs.declared.referee.instances.Position.{Position}
+use Rattle.cudf_referee.specs.declared.referee.instances.Position.TheVariants.{Start, At, End}
 use Rattle.cudf_job.specs.KeyViews.{key_view}
 use Rattle.cudf_referee.specs.Promises.Stops.{PlainPosition, at_start, at_key, at_end}
 

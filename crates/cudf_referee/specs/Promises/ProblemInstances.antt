@@ -1,6 +1,6 @@
 -- What contracts see of the instances of a problem that are left: own.
 use Rattle.std.specs.Prelude.{List}
-use Rattle.cudf_referee.specs.declared.problem_instances.ProblemInstances.{ProblemInstances}
+use Rattle.cudf_referee.specs.declared.instance.ProblemInstances.{ProblemInstances}
 use Rattle.cudf_referee.specs.Instances.{PlainInstance}
 use Rattle.cudf_referee.specs.Working.ProblemLeft.{left_from}
 

@@ -4,7 +4,7 @@ use Rattle.indexmap.specs.IndexMap.{get_by}
 use Rattle.cudf_value.specs.Vpkgs.{PlainVpkg}
 use Rattle.cudf_problem.specs.Ids.{Id}
 use Rattle.cudf_index.specs.Satisfaction.{Placed, entry_pair, gives}
-use Rattle.cudf_referee.specs.declared.referee.before.NumberedNames.{NumberedNames}
+use Rattle.cudf_referee.specs.declared.referee.NumberedNames.{NumberedNames}
 
 -- the number that is kept of a name
 abbrev pub kept_greatest : List ℕ → NumberedNames → Option ℕ

@@ -3,8 +3,8 @@ use Rattle.std.specs.Prelude.{◌≡◌, ◌-◌, ℕ, Option, Some, None, slice
 use Rattle.cudf_problem.specs.Universe.{PlainPackage, PlainProblem}
 use Rattle.cudf_job.specs.declared.key.Key.{Key}
 use Rattle.cudf_job.specs.KeyViews.{key_view}
-use Rattle.cudf_referee.specs.declared.left.candidate.Left.{Left}
-use Rattle.cudf_referee.specs.declared.left.request_left.RequestLeft.{RequestLeft}
+use Rattle.cudf_referee.specs.declared.left.Left.{Left}
+use Rattle.cudf_referee.specs.declared.left.RequestLeft.{RequestLeft}
 use Rattle.cudf_referee.specs.Proposals.{everything}
 use Rattle.cudf_referee.specs.Violations.{package_instances, request_instances}
 use Rattle.cudf_referee.specs.Working.PackageLeft.{left_view}

@@ -4,8 +4,8 @@ use Rattle.std.specs.List.{enumerate_from}
 use Rattle.cudf_problem.specs.Statuses.{is_initial}
 use Rattle.cudf_problem.specs.Universe.{PlainProblem}
 use Rattle.cudf_index.specs.Satisfaction.{Placed, members}
-use Rattle.cudf_referee.specs.declared.referee.remedies.Among.{Among}
-use Rattle.cudf_referee.specs.declared.referee.remedies.Among.TheVariants.{All, Initial}
+use Rattle.cudf_referee.specs.declared.referee.explainer.Among.{Among}
+use Rattle.cudf_referee.specs.declared.referee.explainer.Among.TheVariants.{All, Initial}
 
 -- the packages among which one is searched
 abbrev pub searched : PlainProblem → Among → List Placed

@@ -8,8 +8,8 @@ use Rattle.cudf_problem.specs.declared.package.Keep.{Keep}
 use Rattle.cudf_problem.specs.declared.package.Keep.TheVariants.{Version, Package, Feature}
 use Rattle.cudf_problem.specs.Promises.Views.{package_view}
 use Rattle.cudf_index.specs.Satisfaction.{Placed}
-use Rattle.cudf_referee.specs.declared.left.candidate.Candidate.{Candidate}
-use Rattle.cudf_referee.specs.declared.left.candidate.Left.{Left}
+use Rattle.cudf_referee.specs.declared.left.Candidate.{Candidate}
+use Rattle.cudf_referee.specs.declared.left.Left.{Left}
 use Rattle.cudf_referee.specs.Proposals.{Proposal, holds_place}
 use Rattle.cudf_referee.specs.Instances.{keep_version, keep_package, keep_feature, PlainInstance}
 use Rattle.cudf_referee.specs.Violations.{package_instances}

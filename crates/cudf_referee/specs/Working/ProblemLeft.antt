@@ -4,9 +4,9 @@ use Rattle.std.specs.List.{flat_map, enumerate_from}
 use Rattle.cudf_problem.specs.Promises.Views.{package_view}
 use Rattle.cudf_problem.specs.Universe.{PlainProblem}
 use Rattle.cudf_index.specs.Satisfaction.{Placed}
-use Rattle.cudf_referee.specs.declared.left.candidate.Candidate.{Candidate}
-use Rattle.cudf_referee.specs.declared.left.candidate.Left.{Left}
-use Rattle.cudf_referee.specs.declared.left.request_left.RequestLeft.{RequestLeft}
+use Rattle.cudf_referee.specs.declared.left.Candidate.{Candidate}
+use Rattle.cudf_referee.specs.declared.left.Left.{Left}
+use Rattle.cudf_referee.specs.declared.left.RequestLeft.{RequestLeft}
 use Rattle.cudf_referee.specs.Instances.{PlainInstance}
 use Rattle.cudf_referee.specs.Proposals.{Proposal, everything}
 use Rattle.cudf_referee.specs.Violations.{package_instances}

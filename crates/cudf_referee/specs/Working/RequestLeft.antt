@@ -7,7 +7,7 @@ use Rattle.cudf_value.specs.Promises.Views.{vpkg_view, vpkgs_view}
 use Rattle.cudf_problem.specs.Universe.{PlainRequest}
 use Rattle.cudf_job.specs.declared.key.Aspect.{Aspect}
 use Rattle.cudf_job.specs.declared.key.Aspect.TheVariants.{Unsatisfied, Many, Lower}
-use Rattle.cudf_referee.specs.declared.left.request_left.RequestLeft.{RequestLeft}
+use Rattle.cudf_referee.specs.declared.left.RequestLeft.{RequestLeft}
 use Rattle.cudf_referee.specs.Instances.{PlainInstance}
 use Rattle.cudf_referee.specs.Violations.{entry_instances}
 use Rattle.cudf_referee.specs.Working.RuleInstances.{install_instance, remove_instance, upgrade_instance}

@@ -2,7 +2,7 @@
 use Rattle.std.specs.Prelude.{ℕ, Bool, false, not, ◌||◌, List, map, filter, max, if◌then◌else◌}
 use Rattle.cudf_index.specs.Satisfaction.{Placed}
 use Rattle.cudf_job.specs.declared.criteria.Criteria.{Criteria}
-use Rattle.cudf_referee.specs.declared.counting.standing.Standing.{Standing}
+use Rattle.cudf_referee.specs.declared.counting.Standing.{Standing}
 use Rattle.cudf_referee.specs.Criteria.{each_once, versions_of, is_same_set, greatest}
 use Rattle.cudf_referee.specs.Violations.{has_package}
 

@@ -1,7 +1,7 @@
 //! The packages of a problem, all of which are to be installed.
 ghost use Rattle.cudf_referee.specs.Working.ProblemLeft.{IsCandidateAt};
 
-use crate::left::candidate::Candidate;
+use crate::left::Candidate;
 use cudf_problem::Problem;
 
 /// The package after this many others, as one that is to be installed.

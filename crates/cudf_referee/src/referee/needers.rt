@@ -1,18 +1,18 @@
-//! Which installed package needs another one: the first with a clause of its `depends` that only this one satisfies.
+//! Which installed package needs another one: the first with a clause of its `depends` that only this one satisfies; and
+//! the packages that meet an entry of `conflicts` or `remove`.
 ghost use Rattle.std.specs.Prelude.{◌≡◌, ◌&&◌, ℕ, true, [], ◌∷◌, None, IfOk, OnOk};
 ghost use Rattle.std.specs.List.{list_any};
 ghost use Rattle.std.specs.FinSet as set;
 ghost use Rattle.cudf_value.specs.Promises.Views.{atom_view, clause_view, formula_view};
+ghost use Rattle.cudf_problem.specs.Promises.Views.{package_view};
 ghost use Rattle.cudf_index.specs.Promises.Members.{other_than};
 ghost use Rattle.cudf_index.specs.Satisfaction.{members, satisfies_atom};
-ghost use Rattle.cudf_problem.specs.Promises.Views.{package_view};
 ghost use Rattle.cudf_referee.specs.Explanations.{is_only, needed_by, needs_place};
-ghost use Rattle.cudf_referee.specs.Working.Needers.{first_beside, first_passing, is_named, kept_needer, only_satisfying, some_satisfying, unless_other, with_clauses, with_needer, with_other, IsCovered};
+ghost use Rattle.cudf_referee.specs.Working.Needers.{first_beside, first_passing, is_named, kept_needer, only_satisfying, some_satisfying, unless_other, with_clauses, with_needer, with_other, IsCovered, holds_other};
 
-use crate::referee::held::first_held;
 use cudf_index::Index;
 use cudf_problem::{Package, Problem, Status};
-use cudf_value::{Atom, Clause, Formula};
+use cudf_value::{Atom, Clause, Formula, VpkgList};
 use indexmap::IndexMap;
 use std::alloc::{AllocError, Global};
 use std::marker::Model;
@@ -258,4 +258,69 @@ pub(super) fn search_needer(
         }
     }
     None
+}
+
+/// Sets the flag of the place, if there is one.
+fn mark(flags: &mut [bool], place: Option<u64>) {
+    if let Some(place) = place {
+        let before = (place as usize).wrapping_sub(1);
+        if let Some(flag) = flags.get_mut(before) {
+            *flag = true;
+        }
+    }
+}
+
+/// Sets the flags of the first packages, other than the one at `except`, that meet these entries.
+fn mark_each(
+    flags: &mut [bool],
+    index: &Index<'_, '_>,
+    entries: VpkgList<'_>,
+    except: Option<u64>,
+) {
+    for entry in entries.vpkgs() {
+        mark(flags, index.first_meeting(&entry, except));
+    }
+}
+
+/// The packages of a status that lines name as meeting an entry. Correctness doesn't rest on these being all: for any
+/// other package, what needs it is searched when asked.
+pub(super) fn partners_of(
+    alloc: Global,
+    problem: &Problem<'_>,
+    status: &Status,
+    index: &Index<'_, '_>,
+) -> Result<Status, AllocError> {
+    let packages = problem.packages();
+    let mut flags = vec![in alloc; false; packages.len()]?;
+    for (before, package) in packages.iter().enumerate() {
+        let place = before as u64 + 1;
+        if status.holds(place) {
+            mark_each(&mut flags, index, package.conflicts, Some(place));
+        }
+    }
+    mark_each(&mut flags, index, problem.request().remove, None);
+    Ok(Status::from_flags(flags))
+}
+
+/// The place of the first package that the status holds, other than the one at `except`.
+pub(super) fn first_held(problem: &Problem<'_>, status: &Status, except: Option<u64>) -> Option<u64>
+    ensures { result ≡ first_passing (λ _. true) (members (holds_other (set.contains status.now) except) problem.now.packages) }
+{
+    for before in 0..problem.packages().len() {
+        let place = before as u64 + 1;
+        if holds_other(status, except, place) {
+            return Some(place);
+        }
+    }
+    None
+}
+
+/// Whether the status holds the place, and it isn't the one that is left out.
+fn holds_other(status: &Status, except: Option<u64>, place: u64) -> bool
+    ensures { result ≡ holds_other (set.contains status.now) except place }
+{
+    match except {
+        Some(left_out) => place != left_out && status.holds(place),
+        None => status.holds(place),
+    }
 }

@@ -1,6 +1,6 @@
 -- The texts in a room, which are no parts of a source.
 use Rattle.std.specs.Prelude.{ℕ, List, [], ◌++◌, map, string_bytes}
-use Rattle.cudf_text.specs.declared.room.Room.{Room, Room', Held-Room-more, None', Some'}
+use Rattle.cudf_text.specs.declared.source.Room.{Room, Room', Held-Room-more, None', Some'}
 
 -- the texts of a room: its own, and those of the room after it
 abbrev mutual

@@ -1,7 +1,7 @@
 -- What the cut looks for in a line.
 use Rattle.std.specs.Prelude.{ℕ, Bool, List}
-use Rattle.cudf_text.specs.declared.joined.Mark.{Mark}
-use Rattle.cudf_text.specs.declared.joined.Mark.TheVariants.{Request, Blank}
+use Rattle.cudf_text.specs.declared.text.Mark.{Mark}
+use Rattle.cudf_text.specs.declared.text.Mark.TheVariants.{Request, Blank}
 use Rattle.cudf_text.specs.Joined.{begins_request}
 use Rattle.cudf_text.specs.Chars.{is_blank_text}
 

@@ -2,7 +2,7 @@
 use Rattle.std.specs.Prelude.{◌≡◌, ℕ, ◌^◌, ◌<◌, Bool, true, ◌&&◌, List, ◌++◌, codes, length, map, Option, Some, IfSome, ◌↔◌}
 use Rattle.std.specs.List.{list_all, flat_map, slice_split, join_with_byte}
 use Rattle.std.specs.Str.{byte}
-use Rattle.cudf_value.specs.declared.relop.Relop.{Relop}
+use Rattle.cudf_value.specs.declared.vpkg.Relop.{Relop}
 use Rattle.cudf_text.specs.Chars.{is_blank_text, trim_start, is_ident}
 use Rattle.cudf_value.specs.Types.{word_type, enum_type}
 use Rattle.cudf_value.specs.Declarations.{with_kind, declaration}

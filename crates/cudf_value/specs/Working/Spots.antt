@@ -1,8 +1,8 @@
 -- The states of the code as spots.
 use Rattle.std.specs.Prelude.{ℕ, Bool, true, false, not, ◌&&◌, List}
 use Rattle.std.specs.List.{fold, list_all}
-use Rattle.cudf_value.specs.declared.declaration.lex_state.LexState.{LexState}
-use Rattle.cudf_value.specs.declared.declaration.lex_state.LexState.TheVariants.{Outside, Bracket, Quotes, Escape, BracketQuotes, BracketEscape, Broken}
+use Rattle.cudf_value.specs.declared.declaration.LexState.{LexState}
+use Rattle.cudf_value.specs.declared.declaration.LexState.TheVariants.{Outside, Bracket, Quotes, Escape, BracketQuotes, BracketEscape, Broken}
 use Rattle.cudf_value.specs.Spots.{Spot, unquoted, in_quotes, after_backslash, astray, next_spot, with_spots, is_outside, is_in_quotes}
 
 -- the spot that a state stands for

@@ -5,7 +5,7 @@ ghost use Rattle.cudf_value.specs.Promises.Views.{formula_view};
 ghost use Rattle.cudf_value.specs.Formulas.{formula};
 
 use crate::formula::{Formula, is_formula_text};
-use crate::parts::lies_in_memory;
+use crate::number::lies_in_memory;
 use cudf_text::trim;
 
 /// Reads a `vpkgformula` (CUDF 2.0, the type library), with blanks or none round it: nothing, or clauses between commas,

@@ -4,7 +4,7 @@ ghost use Rattle.cudf_text.specs.Chars.{trim};
 ghost use Rattle.cudf_value.specs.Promises.Views.{list_view};
 ghost use Rattle.cudf_value.specs.Formulas.{vpkglist, veqpkglist};
 
-use crate::parts::lies_in_memory;
+use crate::number::lies_in_memory;
 use crate::vpkglist::{VpkgList, is_veqpkglist_text, is_vpkglist_text};
 use cudf_text::trim;
 

@@ -1,6 +1,6 @@
 use Rattle.std.proofs.Common.{◌++◌, Some, map, ap, sym, ◌∙◌}
 use Rattle.std.proofs.lemmas.List.{append-nil}
-use Rattle.cudf_value.specs.declared.relop.Relop.TheVariants.{Lt}
+use Rattle.cudf_value.specs.declared.vpkg.Relop.TheVariants.{Lt}
 use Rattle.cudf_index.specs.Promises.Places.{gives_number}
 use Rattle.cudf_job.specs.KeyViews.{key_view}
 use Rattle.cudf_cnf.specs.Working.Parts.{keyed, lower_by}

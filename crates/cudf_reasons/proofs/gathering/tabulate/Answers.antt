@@ -5,7 +5,7 @@ use Rattle.cudf_job.specs.declared.key.Part.{Part}
 use Rattle.cudf_reasons.specs.Reasons.{PlainReason, ascending, core_of}
 use Rattle.cudf_reasons.specs.Views.{needed_view}
 use Rattle.cudf_reasons.specs.Working.Gathered.{literals_in, other_places}
-use Rattle.cudf_reasons.specs.declared.needed.Needed.{Needed}
+use Rattle.cudf_reasons.specs.declared.gathering.Needed.{Needed}
 use Rattle.cudf_reasons.proofs.GatherLemmas.{core_step, first_read}
 use Rattle.cudf_reasons.proofs.gathering.tabulate.Goals as goal
 

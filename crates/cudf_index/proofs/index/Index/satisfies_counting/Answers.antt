@@ -3,7 +3,7 @@ use Rattle.std.specs.Prelude.{if◌then◌else◌}
 use Rattle.std.specs.List.{count_by}
 use Rattle.std.specs.Option.{is_none}
 use Rattle.std.proofs.lemmas.Grind.{common_steps}
-use Rattle.cudf_value.specs.declared.relop.Relop.{Relop}
+use Rattle.cudf_value.specs.declared.vpkg.Relop.{Relop}
 use Rattle.cudf_value.specs.Promises.Views.{vpkg_view}
 use Rattle.cudf_value.specs.Vpkgs.{meets}
 use Rattle.cudf_index.specs.Satisfaction.{numbers_of, is_below_one, satisfies}

@@ -4,7 +4,7 @@ use Rattle.std.proofs.lemmas.List.{get_or_default}
 use Rattle.cudf_reasons.specs.Reasons.{PlainReason, brought, is_brought_by, is_new, with_reason, with_reasons}
 use Rattle.cudf_reasons.specs.Working.Tables.{reason_at}
 use Rattle.cudf_reasons.specs.Working.Walks.{IsRunOf, Progress}
-use Rattle.cudf_reasons.specs.declared.table.Run.{Run}
+use Rattle.cudf_reasons.specs.declared.gathering.Run.{Run}
 use Rattle.cudf_reasons.proofs.MarkLemmas.{follows_empty, follows_none, followed_marked, next_passes, run_begins, run_ends, run_within}
 use Rattle.cudf_reasons.proofs.WalkLemmas.{all_told}
 use Rattle.cudf_reasons.proofs.walk.Walk.follow_package.Goals as goal

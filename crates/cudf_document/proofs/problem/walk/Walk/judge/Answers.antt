@@ -1,5 +1,5 @@
 use Rattle.std.proofs.Common.{ap, ◌∙◌}
-use Rattle.cudf_problem.specs.declared.postmark.Postmark.TheVariants.{Package, Request}
+use Rattle.cudf_problem.specs.declared.problem.Postmark.TheVariants.{Package, Request}
 use Rattle.cudf_problem.specs.Documents.{marks}
 use Rattle.cudf_document.proofs.problem.walk.Walk.judge.Goals as goal
 

@@ -3,7 +3,7 @@ use Rattle.std.proofs.lemmas.List.{append_assoc}
 use Rattle.std.specs.List.{list_any, flat_map}
 use Rattle.cudf_text.specs.declared.fault.Kind.TheVariants.{E11, E12, E14}
 use Rattle.cudf_text.specs.Promises.Views.{stanza_view}
-use Rattle.cudf_problem.specs.declared.postmark.Postmark.TheVariants.{Package}
+use Rattle.cudf_problem.specs.declared.problem.Postmark.TheVariants.{Package}
 use Rattle.cudf_document.specs.Faults.{lesser, least, fault_if}
 use Rattle.cudf_problem.specs.Documents.{with_earlier}
 use Rattle.cudf_problem.specs.Ids.{is_known}

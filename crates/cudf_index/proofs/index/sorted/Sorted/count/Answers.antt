@@ -1,7 +1,7 @@
 use Rattle.std.proofs.Common.{◌≡◌, rules, ℕ, nat_lt, nat_le, Bool, true, cond, ◌+◌, ◌==◌, ◌-◌, arith, sym, ap, ◌∙◌, List, length, Option, Some, None}
 use Rattle.std.specs.List.{count_by}
-use Rattle.cudf_value.specs.declared.relop.Relop.{Relop}
-use Rattle.cudf_value.specs.declared.relop.Relop.TheVariants.{Neq, Geq, Gt}
+use Rattle.cudf_value.specs.declared.vpkg.Relop.{Relop}
+use Rattle.cudf_value.specs.declared.vpkg.Relop.TheVariants.{Neq, Geq, Gt}
 use Rattle.cudf_value.specs.Vpkgs.{meets}
 use Rattle.cudf_index.proofs.CountLemmas.{count-all, count-sum, equal_unequal, from_below, above_up_to}
 use Rattle.cudf_index.proofs.index.sorted.Sorted.count.Goals as goal

@@ -3,7 +3,7 @@ use Rattle.cudf_referee.specs.Promises.Views.{instance_view}
 use Rattle.cudf_referee.specs.Proposals.{Proposal}
 use Rattle.std.specs.List.{enumerate_from}
 use Rattle.cudf_referee.specs.Working.Searches.{Comes, ComesTo, Searches, packages_rest, request_rest, unknown_rest}
-use Rattle.cudf_referee.specs.declared.left.request_left.RequestLeft.{RequestLeft}
+use Rattle.cudf_referee.specs.declared.left.RequestLeft.{RequestLeft}
 use Rattle.std.specs.Prelude.{All}
 use Rattle.cudf_referee.specs.Working.Located.{IsStopLocated}
 use Rattle.cudf_referee.proofs.LocatedLemmas.{all-left, all-right}

@@ -1,7 +1,0 @@
--- The bytes so far were appended.
-use Rattle.std.proofs.Common.{◌≡◌, ◌++◌, take}
-use Rattle.cudf_calls.specs.Working.Bytes.{listed}
-use Rattle.cudf_calls.proofs.taken.Bytes.append.Given as goal
-
-abbrev pub invariant-loop-byte : goal.invariant-loop-byte
-invariant-loop-byte l = listed l.self ≡ listed l.initial.self ++ take l.byte-index l.bytes

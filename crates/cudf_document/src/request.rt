@@ -1,2 +1,0 @@
-//! How a request is read.
-pub(crate) mod lists;

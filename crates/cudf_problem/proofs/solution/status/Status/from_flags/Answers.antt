@@ -1,5 +1,0 @@
-use Rattle.cudf_problem.proofs.FlagLemmas.{contains-places}
-use Rattle.cudf_problem.proofs.solution.status.Status.from_flags.Goals as goal
-
-pub returns : goal.returns
-returns c = contains-places c.args.flags.items
