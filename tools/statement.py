@@ -48,7 +48,7 @@ TEXTS, STYLE, PLAIN = {"cnf_answer", "cnf_better", "refute_answer", "refute_bett
 CALLS = {"StopsInTime", "StopsWriting", "IsStopped", "LeavesBehind"}
 # and what a text means, of commands of which the headline says the text
 MEANINGS, MEANT = {"Means"}, {"cnf", "refute", "all"}
-PROOFS_BY_HAND = {f"crates/cudf_index/proofs/steps/mark/Mark/{name}/Proof.antt" for name in ("grow", "new")}
+PROOFS_BY_HAND = {f"crates/cudf_index/proofs/steps/mark/GhostNumber/{name}/Proof.antt" for name in ("grow", "new")}
 
 # a whole `use`, to the end of the line, or of the line on which its braces end; and the two forms that are read
 USE = re.compile(r"^[^\S\n]*(?:pub(?:\([^)]*\))?\s+)?(?:ghost\s+)?use\b(?:\{[^}]*\}|[^\n{])*", re.M)

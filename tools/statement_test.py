@@ -9,7 +9,7 @@ from pathlib import Path
 ROOT = Path(__file__).resolve().parent.parent
 COPIED = ("crates/*/src/**/*.rt", "crates/*/specs/**/*.antt", "crates/*/proofs/**/Proof.antt", "crates.txt",
           "docs/PROOFS.md", "tools/statement.py")
-BY_HAND = (ROOT / "crates/cudf_index/proofs/steps/mark/Mark/new/Proof.antt").read_text()
+BY_HAND = (ROOT / "crates/cudf_index/proofs/steps/mark/GhostNumber/new/Proof.antt").read_text()
 LIB = (ROOT / "crates/cudf_check/src/lib.rt").read_text()
 # `run` without its name, up to what comes after it
 ENTRY = LIB.partition("pub fn run<")[2].partition("/// What a source gave,")[0]

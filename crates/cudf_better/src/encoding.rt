@@ -25,7 +25,7 @@ use std::alloc::{AllocError, Global};
 /// Adds the items of a count.
 fn add_items(
     alloc: Global,
-    source: &Source<'_, '_>,
+    source: &ProblemIndexes<'_, '_>,
     count: Count,
     made: &mut Items,
 ) -> Result<(), AllocError>
@@ -42,7 +42,11 @@ fn add_items(
 }
 
 /// The items of a count.
-fn items_of(alloc: Global, source: &Source<'_, '_>, count: Count) -> Result<Items, AllocError>
+fn items_of(
+    alloc: Global,
+    source: &ProblemIndexes<'_, '_>,
+    count: Count,
+) -> Result<Items, AllocError>
     ensures { IfOk result (λ made. made ≡ items source.now.problem.now count) }
 {
     let mut made = Items::new(alloc);
@@ -73,7 +77,7 @@ fn constraint(items: Items, is_true: bool, bound: usize) -> Constraint
 /// That the count of an aim is no worse than this.
 fn constraint_of(
     alloc: Global,
-    source: &Source<'_, '_>,
+    source: &ProblemIndexes<'_, '_>,
     aim: Aim,
     count: u64,
 ) -> Result<Constraint, AllocError>
@@ -94,7 +98,7 @@ fn constraint_of(
 /// The same of all aims.
 fn constraints_of(
     alloc: Global,
-    source: &Source<'_, '_>,
+    source: &ProblemIndexes<'_, '_>,
     counts: &Criteria,
     aims: &[Aim],
 ) -> Result<Vec<Constraint>, AllocError>
@@ -120,7 +124,7 @@ fn better_of(
     requires rules { rules.now.clauses ≡ clauses_of (cnf problem.now) }
     ensures { IfOk result (IsEncoded problem.now counts.now aims.now) }
 {
-    let source = Source::new(alloc, problem)?;
+    let source = ProblemIndexes::new(alloc, problem)?;
     let constraints = constraints_of(alloc, &source, counts, aims)?;
     let next = problem.packages().len() as u32 + 1;
     let mut definitions = Definitions::new(alloc, next);
@@ -157,7 +161,7 @@ pub fn encoded(
 
 /// A problem, and what is looked up in it.
 #[derive(Drop)]
-pub(crate) struct Source<'p, 't> {
+pub(crate) struct ProblemIndexes<'p, 't> {
     pub(crate) problem: &'p Problem<'t>,
     /// All packages, installed or not.
     pub(crate) all: Index<'p, 't>,
@@ -170,7 +174,7 @@ pub(crate) struct Source<'p, 't> {
     ghost few: { length problem.now.packages < 2 ^ 32 },
 }
 
-impl<'p, 't> Source<'p, 't> {
+impl<'p, 't> ProblemIndexes<'p, 't> {
     /// Of a problem.
     ///
     /// # Errors
@@ -182,7 +186,7 @@ impl<'p, 't> Source<'p, 't> {
     {
         let was = initial(alloc, problem)?;
         let before = Index::build(alloc, problem, &was)?;
-        Ok(Source {
+        Ok(ProblemIndexes {
             problem,
             all: all_of(alloc, problem)?,
             before,

@@ -7,7 +7,7 @@ ghost use Rattle.cudf_referee.specs.Criteria.{greatest};
 ghost use Rattle.cudf_better.specs.Better.{changed_item, has_item, names, all_packages, changes, item, missed_items};
 ghost use Rattle.cudf_better.specs.Working.Sources.{is_version_at, name_items, version_at, missed_by};
 
-use crate::encoding::Source;
+use crate::encoding::ProblemIndexes;
 use cudf_cnf::{add_places, is_in};
 use cudf_job::Count;
 use cudf_lrat::{Lists, Literal};
@@ -89,7 +89,7 @@ impl Items {
 /// Adds the item that a package of the name is installed, if it is wanted.
 fn add_has(
     alloc: Global,
-    source: &Source<'_, '_>,
+    source: &ProblemIndexes<'_, '_>,
     name: &str,
     is_wanted: bool,
     items: &mut Items,
@@ -109,7 +109,7 @@ fn add_has(
 /// Adds the item that a package of the name isn't as it was.
 fn add_changed(
     alloc: Global,
-    source: &Source<'_, '_>,
+    source: &ProblemIndexes<'_, '_>,
     name: &str,
     items: &mut Items,
 ) -> Result<(), AllocError>
@@ -123,7 +123,7 @@ fn add_changed(
 }
 
 /// The greatest version of the packages at the places, 0 where there are none.
-fn latest(source: &Source<'_, '_>, places: &[u64]) -> u64
+fn latest(source: &ProblemIndexes<'_, '_>, places: &[u64]) -> u64
     ensures { result ≡ greatest (map (version_at source.now.problem.now) places.now) }
 {
     let mut latest = 0;
@@ -134,28 +134,28 @@ fn latest(source: &Source<'_, '_>, places: &[u64]) -> u64
 }
 
 /// Whether the package at a place has this version.
-fn is_of_version(source: &Source<'_, '_>, version: u64, place: u64) -> bool
+fn is_of_version(source: &ProblemIndexes<'_, '_>, version: u64, place: u64) -> bool
     ensures { result ≡ is_version_at source.now.problem.now version place }
 {
     source.version(place) == version
 }
 
 /// Whether it doesn't.
-fn is_of_other_version(source: &Source<'_, '_>, version: u64, place: u64) -> bool
+fn is_of_other_version(source: &ProblemIndexes<'_, '_>, version: u64, place: u64) -> bool
     ensures { result ≡ not (is_version_at source.now.problem.now version place) }
 {
     source.version(place) != version
 }
 
 /// Keeps the places whose packages have this version.
-fn keep_version(source: &Source<'_, '_>, version: u64, places: &mut Vec<u64>)
+fn keep_version(source: &ProblemIndexes<'_, '_>, version: u64, places: &mut Vec<u64>)
     ensures { places.new.items ≡ filter (is_version_at source.now.problem.now version) places.old.items }
 {
     places.retain(|place| is_of_version(source, version, *place));
 }
 
 /// Keeps the others.
-fn keep_other_versions(source: &Source<'_, '_>, version: u64, places: &mut Vec<u64>)
+fn keep_other_versions(source: &ProblemIndexes<'_, '_>, version: u64, places: &mut Vec<u64>)
     ensures { places.new.items ≡ filter (λ n. not (is_version_at source.now.problem.now version n)) places.old.items }
 {
     places.retain(|place| is_of_other_version(source, version, *place));
@@ -164,7 +164,7 @@ fn keep_other_versions(source: &Source<'_, '_>, version: u64, places: &mut Vec<u
 /// Adds the item that a package of the name is installed, and none of its greatest version, where there is another one.
 fn add_outdated(
     alloc: Global,
-    source: &Source<'_, '_>,
+    source: &ProblemIndexes<'_, '_>,
     name: &str,
     items: &mut Items,
 ) -> Result<(), AllocError>
@@ -190,7 +190,7 @@ fn add_outdated(
 /// Adds the items of a name.
 fn add_named(
     alloc: Global,
-    source: &Source<'_, '_>,
+    source: &ProblemIndexes<'_, '_>,
     count: Count,
     name: &str,
     items: &mut Items,
@@ -210,7 +210,7 @@ fn add_named(
 /// Adds the items of all names, each once.
 pub(crate) fn add_names(
     alloc: Global,
-    source: &Source<'_, '_>,
+    source: &ProblemIndexes<'_, '_>,
     count: Count,
     items: &mut Items,
 ) -> Result<(), AllocError>
@@ -228,7 +228,10 @@ pub(crate) fn add_names(
 }
 
 /// Adds, for each package, the item that it isn't as it was.
-pub(crate) fn add_touched(source: &Source<'_, '_>, items: &mut Items) -> Result<(), AllocError>
+pub(crate) fn add_touched(
+    source: &ProblemIndexes<'_, '_>,
+    items: &mut Items,
+) -> Result<(), AllocError>
     ensures { OnOk result (items.new ≡ items.old ++ map (λ p. item (changes p ∷ []) []) (all_packages source.now.problem.now)) }
 {
     for index in 0..source.problem.packages().len() {
@@ -240,7 +243,7 @@ pub(crate) fn add_touched(source: &Source<'_, '_>, items: &mut Items) -> Result<
 /// Adds the item of a conjunct that the package at a place recommends, unless the package itself would do.
 fn add_missed(
     alloc: Global,
-    source: &Source<'_, '_>,
+    source: &ProblemIndexes<'_, '_>,
     place: u64,
     clause: &Clause<'_>,
     items: &mut Items,
@@ -263,7 +266,7 @@ fn add_missed(
 /// Adds those of all conjuncts of a formula.
 fn add_missed_of(
     alloc: Global,
-    source: &Source<'_, '_>,
+    source: &ProblemIndexes<'_, '_>,
     place: u64,
     formula: Formula<'_>,
     items: &mut Items,
@@ -280,7 +283,7 @@ fn add_missed_of(
 /// Adds those of all packages.
 pub(crate) fn add_recommended(
     alloc: Global,
-    source: &Source<'_, '_>,
+    source: &ProblemIndexes<'_, '_>,
     items: &mut Items,
 ) -> Result<(), AllocError>
     ensures { OnOk result (items.new ≡ items.old ++ flat_map (missed_items source.now.problem.now) (all_packages source.now.problem.now)) }

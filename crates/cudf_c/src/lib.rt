@@ -4,15 +4,15 @@
 ghost use Rattle.std.specs.Prelude.{map};
 ghost use Rattle.cudf_calls.specs.Calls.{Runs, left};
 
-use cudf_calls::{Input, Text};
+use cudf_calls::{NamedBytes, Word};
 use std::alloc::Global;
 
 /// [`cudf_calls::run`] for C. The last document stands for the file of `--better-than=NAME`, where that is one of the words.
 #[unsafe(no_mangle)]
 pub extern "C" fn cudf_check_run(
     alloc: Global,
-    words: &[Text<'_>],
-    documents: &[Input<'_>],
+    words: &[Word<'_>],
+    documents: &[NamedBytes<'_>],
     room: &mut [u8],
     length: &mut usize,
 ) -> u8

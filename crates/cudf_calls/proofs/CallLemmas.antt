@@ -14,8 +14,8 @@ use Rattle.cudf_device.specs.declared.outcome.Outcome.{Outcome}
 use Rattle.cudf_problem.proofs.ListLemmas.{list_any-map}
 use Rattle.cudf_calls.specs.Calls.{BreaksOff, Does, Explains, IsLong, IsShort, Left, Reports, Says, Shows, is_better, labels, left, names_behind, names_of, texts_of}
 use Rattle.cudf_calls.specs.Working.Fronts.{IsWritten}
-use Rattle.cudf_calls.specs.declared.Input.{Input}
-use Rattle.cudf_calls.specs.declared.Text.{Text}
+use Rattle.cudf_calls.specs.declared.NamedBytes.{NamedBytes}
+use Rattle.cudf_calls.specs.declared.Word.{Word}
 use Rattle.cudf_calls.specs.declared.front.Front.{Front}
 use Rattle.cudf_calls.specs.declared.carried.Stop.{Stop}
 use Rattle.cudf_calls.specs.declared.carried.Stop.TheVariants as stops
@@ -41,11 +41,11 @@ reports answer old new before after told outcome status is was now long tells = 
 pub explained : (text : List ℕ) (call : Left) → call.status ≡ 4 → Shows text call → Explains 4 call
 explained text call status shows = record { message = text; status_is = status; shows = shows }
 
-pub does_none : (order : Order) (documents : List Input) (call : Left) → length documents ≡ 0 → Explains 4 call → Does order documents call
+pub does_none : (order : Order) (documents : List NamedBytes) (call : Left) → length documents ≡ 0 → Explains 4 call → Does order documents call
 does_none order [] call none is = is
 does_none order (first ∷ others) call none is = absurd (omega (arith, none))
 
-module _ (order : Order) (documents : List Input) (first : Input) (others : List Input) (call : Left) (are : documents ≡ first ∷ others) (files : ℕ) (many : files ≡ vec_len order.others) where
+module _ (order : Order) (documents : List NamedBytes) (first : NamedBytes) (others : List NamedBytes) (call : Left) (are : documents ≡ first ∷ others) (files : ℕ) (many : files ≡ vec_len order.others) where
   abbrev answer : Report
   answer = report order.job order.mode (labels order.names_files first others) first.text.now (texts_of others)
 
@@ -72,7 +72,7 @@ refused_so stop more (inl out) = inl out
 refused_so stop more (inr refused) = inr (refused.0, more refused.1)
 
 -- the documents whose files are named behind the words
-module _ (words : List Text) (documents : List Input) (items : List (String Global)) (are : map (λ word. string_bytes word) items ≡ names_of documents) where
+module _ (words : List Word) (documents : List NamedBytes) (items : List (String Global)) (are : map (λ word. string_bytes word) items ≡ names_of documents) where
   abbrev texts : List (List ℕ)
   texts = map (λ word. word.bytes.now) words
 

@@ -15,7 +15,7 @@ use Rattle.cudf_device.specs.declared.outcome.RunError.TheVariants as errors
 use Rattle.cudf_calls.specs.Calls.{labels, texts_of}
 use Rattle.cudf_calls.specs.Working.Fronts.{front_state, IsUnwritten, IsWritten}
 use Rattle.cudf_calls.specs.Working.Rooms.{over}
-use Rattle.cudf_calls.specs.declared.Input.{Input}
+use Rattle.cudf_calls.specs.declared.NamedBytes.{NamedBytes}
 use Rattle.cudf_calls.specs.declared.front.Front.{Front}
 use Rattle.cudf_calls.specs.declared.carried.Stop.{Stop}
 use Rattle.cudf_calls.specs.declared.carried.Stop.TheVariants.{Memory}
@@ -54,7 +54,7 @@ module _ (old new : Front) where
 
 -- ---- runs
 
-module _ (order : Order) (first : Input) (others : List Input) (reader : Change SourceState) (readers : List (Change SourceState)) (old new : Front)
+module _ (order : Order) (first : NamedBytes) (others : List NamedBytes) (reader : Change SourceState) (readers : List (Change SourceState)) (old new : Front)
     (of_first : OfInput order.names_files first reader) (of_others : AllZip (OfInput order.names_files) others readers) where
   abbrev answer : Report
   answer = report order.job order.mode (labels order.names_files first others) first.text.now (texts_of others)

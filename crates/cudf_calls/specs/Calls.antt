@@ -11,7 +11,7 @@ use Rattle.cudf_command_line.specs.declared.usage.Usage.{Usage}
 use Rattle.cudf_command_line.specs.declared.usage.Usage.TheVariants.{Told}
 use Rattle.cudf_device.specs.Outcomes.{outcome_status, Report}
 use Rattle.cudf_device.specs.Readers.{OfOne, most_bytes}
-use Rattle.cudf_calls.specs.declared.Input.{Input}
+use Rattle.cudf_calls.specs.declared.NamedBytes.{NamedBytes}
 
 -- ---- what is left
 
@@ -66,10 +66,10 @@ abbrev pub Answers : List (List ℕ) → Report → Left → Type 0
 Answers documents answer call = (OfOne IsLong documents × BreaksOff 5 call) ⊎ (All IsShort documents × Reports answer call)
 
 -- their texts and their names
-abbrev pub texts_of : List Input → List (List ℕ)
+abbrev pub texts_of : List NamedBytes → List (List ℕ)
 texts_of documents = map (λ document. document.text.now) documents
 
-abbrev pub names_of : List Input → List (List ℕ)
+abbrev pub names_of : List NamedBytes → List (List ℕ)
 names_of documents = map (λ document. document.name.now) documents
 
 -- how lines name a document, where they name files: not at all, if its name is empty
@@ -77,7 +77,7 @@ abbrev pub label : Bool → List ℕ → Option (List ℕ)
 label names_files [] = None
 label names_files (byte ∷ name) = if names_files then Some (byte ∷ name) else None
 
-abbrev pub labels : Bool → Input → List Input → Names
+abbrev pub labels : Bool → NamedBytes → List NamedBytes → Names
 labels names_files first others = record { first = label names_files first.name.now; others = map (λ document. label names_files document.name.now) others }
 
 -- ---- words
@@ -88,7 +88,7 @@ is_better word = starts_with nat_eq word (codes "--better-than=")
 
 -- the names of the documents that stand for files behind the words: of all, or where a word names the file of `--better-than`, for which
 -- the last one stands, of all but that
-abbrev pub names_behind : List (List ℕ) → List Input → List (List ℕ)
+abbrev pub names_behind : List (List ℕ) → List NamedBytes → List (List ℕ)
 names_behind words documents = if list_any is_better words then take (length documents - 1) (names_of documents) else names_of documents
 
 -- behind `--` all words are files
@@ -97,7 +97,7 @@ behind [] = []
 behind (name ∷ names) = codes "--" ∷ name ∷ names
 
 -- the program's command line: its own name, the words, and the names of documents
-abbrev pub line_of : List (List ℕ) → List Input → List (List ℕ)
+abbrev pub line_of : List (List ℕ) → List NamedBytes → List (List ℕ)
 line_of words documents = codes "cudf_check" ∷ words ++ behind (names_behind words documents)
 
 -- a word isn't UTF-8
@@ -107,7 +107,7 @@ IsNoText word = IsUtf8 word → ⊥
 -- ---- calls
 
 -- what an order does on documents, of which there has to be one for each of its files: else a word names a file, and the status is 4
-abbrev pub Does : Order → List Input → Left → Type 0
+abbrev pub Does : Order → List NamedBytes → Left → Type 0
 Does order [] call = Explains 4 call
 Does order (first ∷ others) call =
     ((length others ≢ length order.others.items) × Explains 4 call)
@@ -120,13 +120,13 @@ Says (Told text) call = ((call.status ≡ 0) × Shows (string_bytes text) call)
 Says usage call = ((usage_status usage ≡ 4) × Explains 4 call) ⊎ BreaksOff 6 call
 
 -- what is done with the words of a command line
-abbrev pub Follows : List (List ℕ) → List Input → Left → Type 0
+abbrev pub Follows : List (List ℕ) → List NamedBytes → Left → Type 0
 Follows line documents call =
     ((order : Order) × IsAskedFor line order × Does order documents call)
     ⊎ ((usage : Usage) × IsUnasked line usage × Says usage call)
 
 -- what a call does: what its words ask the program for; they are refused where one isn't UTF-8; or memory ran out before
-abbrev pub Runs : List (List ℕ) → List Input → Left → Type 0
+abbrev pub Runs : List (List ℕ) → List NamedBytes → Left → Type 0
 Runs words documents call =
     Follows (line_of words documents) documents call
     ⊎ (((OfOne IsNoText words ⊎ OfOne IsNoText (names_of documents)) × Explains 4 call) ⊎ BreaksOff 6 call)

@@ -10,9 +10,9 @@ ghost use Rattle.cudf_calls.specs.Calls.{Does, Follows, Reports, label, labels, 
 ghost use Rattle.cudf_calls.specs.Working.Documents.{IsNew};
 ghost use Rattle.cudf_calls.specs.Working.Fronts.{IsUnwritten, IsWritten};
 
-use crate::Input;
-use crate::document::{Document, are_short};
-use crate::front::{Front, Seen, copy_front};
+use crate::NamedBytes;
+use crate::document::{MemorySource, are_short};
+use crate::front::{Front, GhostFront, copy_front};
 use cudf_check::{Outcome, RunError, run};
 use cudf_command_line::command::command;
 use cudf_command_line::{Order, Usage};
@@ -22,7 +22,7 @@ use std::alloc::{AllocError, Global};
 pub(crate) fn obey(
     alloc: Global,
     line: &[String],
-    documents: &[Input<'_>],
+    documents: &[NamedBytes<'_>],
     room: &mut [u8],
     length: &mut usize,
 ) -> u8
@@ -40,7 +40,7 @@ pub(crate) fn obey(
 fn carry_out(
     alloc: Global,
     order: &Order<'_>,
-    documents: &[Input<'_>],
+    documents: &[NamedBytes<'_>],
     room: &mut [u8],
     length: &mut usize,
 ) -> u8
@@ -65,8 +65,8 @@ fn carry_out(
 fn report<'t>(
     alloc: Global,
     order: &Order<'_>,
-    first: &Input<'t>,
-    others: &[Input<'t>],
+    first: &NamedBytes<'t>,
+    others: &[NamedBytes<'t>],
     room: &mut [u8],
     length: &mut usize,
 ) -> u8
@@ -74,7 +74,7 @@ fn report<'t>(
 
     ensures { Reports (report order.now.job order.now.mode (labels order.now.names_files first.now others.now) first.now.text.now (texts_of others.now)) (left room.old room.new length.new result) }
 {
-    let mut seen = Seen::of(room);
+    let mut seen = GhostFront::of(room);
     let mut out = Front::new(room, &mut seen);
     match write(alloc, order, first, others, &mut out) {
         Ok(outcome) => {
@@ -89,8 +89,8 @@ fn report<'t>(
 fn write<'t>(
     alloc: Global,
     order: &Order<'_>,
-    first: &Input<'t>,
-    others: &[Input<'t>],
+    first: &NamedBytes<'t>,
+    others: &[NamedBytes<'t>],
     out: &mut Front<'_>,
 ) -> Result<Outcome, Stop>
     requires report { out.old.seen.now.report ≡ [] }
@@ -119,8 +119,8 @@ fn write<'t>(
 fn documents<'t>(
     alloc: Global,
     names_files: bool,
-    inputs: &[Input<'t>],
-) -> Result<Vec<Document<'t>>, AllocError>
+    inputs: &[NamedBytes<'t>],
+) -> Result<Vec<MemorySource<'t>>, AllocError>
     ensures { IfOk result (λ documents. All IsUtf8 (names_of inputs.now) → AllZip (IsNew names_files) inputs.now documents.items) }
 {
     let mut documents = Vec::new(alloc);
@@ -131,10 +131,10 @@ fn documents<'t>(
 }
 
 /// The document of an input, of which nothing was read.
-fn document<'t>(names_files: bool, input: &Input<'t>) -> Document<'t>
+fn document<'t>(names_files: bool, input: &NamedBytes<'t>) -> MemorySource<'t>
     ensures { IsUtf8 input.now.name.now → IsNew names_files input.now result }
 {
-    Document::new(input.text, label(names_files, input.name))
+    MemorySource::new(input.text, label(names_files, input.name))
 }
 
 /// How lines name a document, where they name files. A name that isn't UTF-8 was refused before.

@@ -8,7 +8,7 @@ ghost use Rattle.cudf_calls.specs.Calls.{IsLong, IsShort, texts_of, IsNoText, is
 ghost use Rattle.cudf_calls.specs.declared.carried.Stop.TheVariants.{Memory, Refused};
 
 use crate::carried::Stop;
-use crate::{Input, Text};
+use crate::{NamedBytes, Word};
 use cudf_check::{Source, Trouble};
 use cudf_index::Steps;
 use std::alloc::Global;
@@ -16,7 +16,7 @@ use std::alloc::Global;
 /// What is left of a document in memory. No call fails, and each gives a byte or reaches the end: so only want of memory ends
 /// the reading of one that isn't too long in an error.
 #[derive(Drop)]
-pub(crate) struct Document<'t> {
+pub(crate) struct MemorySource<'t> {
     pub(crate) rest: &'t [u8],
     /// Its name, where lines name it.
     pub(crate) name: Option<&'t str>,
@@ -28,18 +28,18 @@ pub(crate) struct Document<'t> {
     ghost counted: { calls ≤ ends + given_before rest.now },
 }
 
-impl<'t> Document<'t> {
+impl<'t> MemorySource<'t> {
     ghost use Rattle.std.specs.Prelude.{◌≡◌, option_map};
     ghost use Rattle.cudf_calls.specs.Working.Documents.{IsUnread};
 
     /// A document of which nothing was read, under this name, if any.
-    pub(crate) fn new(text: &'t [u8], name: Option<&'t str>) -> Document<'t>
+    pub(crate) fn new(text: &'t [u8], name: Option<&'t str>) -> MemorySource<'t>
         ensures unread { IsUnread text.now result }
         ensures name { option_map (λ n. n.now) result.name ≡ option_map (λ n. n.now) name.entry }
     {
         let mut calls = Steps::new();
         calls.grow_by(usize::MAX - text.len());
-        Document {
+        MemorySource {
             rest: text,
             name,
             calls,
@@ -49,7 +49,7 @@ impl<'t> Document<'t> {
     }
 }
 
-impl<'t> Source for Document<'t> {
+impl<'t> Source for MemorySource<'t> {
     ghost use Rattle.cudf_calls.specs.Working.Documents.{document_state};
 
     ghost state = { document_state };
@@ -80,7 +80,7 @@ fn is_short(count: usize) -> bool
 }
 
 /// Whether each of the documents is.
-pub(crate) fn are_short(documents: &[Input<'_>]) -> bool
+pub(crate) fn are_short(documents: &[NamedBytes<'_>]) -> bool
     ensures { MatchBool result (All IsShort (texts_of documents.now)) (OfOne IsLong (texts_of documents.now)) }
 {
     for document in documents {
@@ -95,8 +95,8 @@ pub(crate) fn are_short(documents: &[Input<'_>]) -> bool
 /// last one stands for the file of `--better-than`, where a word has its name.
 pub(crate) fn line(
     alloc: Global,
-    words: &[Text<'_>],
-    documents: &[Input<'_>],
+    words: &[Word<'_>],
+    documents: &[NamedBytes<'_>],
 ) -> Result<Vec<String>, Stop>
     ensures line { IfOk result (λ line. map (λ word. string_bytes word) line.items ≡ line_of (map (λ word. word.bytes.now) words.now) documents.now) }
     ensures read { MatchResult result (λ line. All IsUtf8 (names_of documents.now))
@@ -117,8 +117,8 @@ pub(crate) fn line(
 /// The names of the documents whose files are named behind the words.
 fn names_behind(
     alloc: Global,
-    words: &[Text<'_>],
-    documents: &[Input<'_>],
+    words: &[Word<'_>],
+    documents: &[NamedBytes<'_>],
 ) -> Result<Vec<String>, Stop>
     ensures names { IfOk result (λ names. map (λ word. string_bytes word) names.items ≡ names_behind (map (λ word. word.bytes.now) words.now) documents.now) }
     ensures read { MatchResult result (λ _. All IsUtf8 (names_of documents.now))
@@ -134,19 +134,19 @@ fn names_behind(
 }
 
 /// Whether one of the words names the file of `--better-than`.
-fn names_better(words: &[Text<'_>]) -> bool
+fn names_better(words: &[Word<'_>]) -> bool
     ensures { result ≡ list_any (λ word. is_better word.bytes.now) words.now }
 {
     words.iter().any(|word| is_better(word))
 }
 
-fn is_better(word: &Text<'_>) -> bool
+fn is_better(word: &Word<'_>) -> bool
     ensures { result ≡ is_better word.now.bytes.now }
 {
     word.bytes.starts_with(b"--better-than=")
 }
 
-fn add_words(alloc: Global, line: &mut Vec<String>, words: &[Text<'_>]) -> Result<(), Stop>
+fn add_words(alloc: Global, line: &mut Vec<String>, words: &[Word<'_>]) -> Result<(), Stop>
     ensures line { IfOk result (λ _. map (λ word. string_bytes word) line.new.items ≡ map (λ word. string_bytes word) line.old.items ++ map (λ word. word.bytes.now) words.now) }
     ensures read { MatchResult result (λ _. All IsUtf8 (map (λ word. word.bytes.now) words.now))
         (λ stop. (stop ≡ Memory) ⊎ ((stop ≡ Refused) × OfOne IsNoText (map (λ word. word.bytes.now) words.now))) }
@@ -157,7 +157,11 @@ fn add_words(alloc: Global, line: &mut Vec<String>, words: &[Text<'_>]) -> Resul
     Ok(())
 }
 
-fn add_names(alloc: Global, line: &mut Vec<String>, documents: &[Input<'_>]) -> Result<(), Stop>
+fn add_names(
+    alloc: Global,
+    line: &mut Vec<String>,
+    documents: &[NamedBytes<'_>],
+) -> Result<(), Stop>
     ensures line { IfOk result (λ _. map (λ word. string_bytes word) line.new.items ≡ map (λ word. string_bytes word) line.old.items ++ names_of documents.now) }
     ensures read { MatchResult result (λ _. All IsUtf8 (names_of documents.now))
         (λ stop. (stop ≡ Memory) ⊎ ((stop ≡ Refused) × OfOne IsNoText (names_of documents.now))) }

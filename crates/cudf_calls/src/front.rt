@@ -8,26 +8,26 @@ use std::snapshot::Snapshot;
 
 /// What contracts see of a front beside its buffer. It takes no bytes at run time.
 #[derive(Drop)]
-pub(crate) struct Seen {
+pub(crate) struct GhostFront {
     /// What the buffer held before the report.
-    pub before: Taken,
+    pub before: GhostBytes,
     /// What was taken of the report.
-    pub report: Taken,
+    pub report: GhostBytes,
 }
 
-impl Seen {
+impl GhostFront {
     ghost use Rattle.std.specs.Prelude.{◌≡◌, []};
 
     /// A buffer that has nothing of a report.
-    pub fn of(room: &[u8]) -> Seen
+    pub fn of(room: &[u8]) -> GhostFront
         ensures before { result.before ≡ room.now }
         ensures report { result.report ≡ [] }
     {
-        let mut before = Taken::new();
+        let mut before = GhostBytes::new();
         before.append(room);
-        Seen {
+        GhostFront {
             before,
-            report: Taken::new(),
+            report: GhostBytes::new(),
         }
     }
 }
@@ -40,7 +40,7 @@ pub(crate) struct Front<'r> {
     pub(crate) length: usize,
     /// How many bytes the last call took.
     pub(crate) last: usize,
-    pub(crate) seen: &'r mut Seen,
+    pub(crate) seen: &'r mut GhostFront,
     ghost filled: { IsFilled room.now length seen.now.before seen.now.report },
 }
 
@@ -48,7 +48,7 @@ impl<'r> Front<'r> {
     ghost use Rattle.std.specs.Prelude.{◌≡◌, []};
 
     /// The front of a report of which nothing was written.
-    pub fn new(room: &'r mut [u8], seen: &'r mut Seen) -> Front<'r>
+    pub fn new(room: &'r mut [u8], seen: &'r mut GhostFront) -> Front<'r>
         requires before { seen.old.before ≡ room.old }
         requires report { seen.old.report ≡ [] }
 
@@ -105,11 +105,11 @@ pub(crate) fn copy_front(text: &[u8], room: &mut [u8])
 }
 
 /// Bytes of which nothing is kept: contracts see them as a list, which only grows and may have any length.
-pub(crate) struct Taken {
+pub(crate) struct GhostBytes {
     bytes: Bytes,
 }
 
-impl Model for Taken {
+impl Model for GhostBytes {
     ghost use Rattle.std.specs.Prelude.{List, ℕ};
 
     ghost Value = { List ℕ };
@@ -119,18 +119,18 @@ impl Model for Taken {
     ghost view = { λ t. listed t.bytes };
 }
 
-impl Drop for Taken {
+impl Drop for GhostBytes {
     fn drop(self) {
-        let Taken { bytes: _ } = self;
+        let GhostBytes { bytes: _ } = self;
     }
 }
 
-impl Taken {
+impl GhostBytes {
     /// No byte yet.
-    pub fn new() -> Taken
+    pub fn new() -> GhostBytes
         ensures { result ≡ [] }
     {
-        Taken {
+        GhostBytes {
             bytes: Bytes::Empty,
         }
     }

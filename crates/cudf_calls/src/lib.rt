@@ -23,7 +23,7 @@ use std::alloc::Global;
 /// A word of a caller's.
 #[repr(C)]
 #[derive(Clone, Copy)]
-pub struct Text<'t> {
+pub struct Word<'t> {
     /// Its bytes: a pointer, which isn't null, and how many there are.
     pub bytes: &'t [u8],
 }
@@ -31,7 +31,7 @@ pub struct Text<'t> {
 /// A document of a caller's.
 #[repr(C)]
 #[derive(Clone, Copy)]
-pub struct Input<'t> {
+pub struct NamedBytes<'t> {
     /// Its bytes.
     pub text: &'t [u8],
     /// Its name, as of a file, which may be empty.
@@ -42,8 +42,8 @@ pub struct Input<'t> {
 /// document stands for the file of `--better-than=NAME`, where that is one of the words.
 pub fn run(
     alloc: Global,
-    words: &[Text<'_>],
-    documents: &[Input<'_>],
+    words: &[Word<'_>],
+    documents: &[NamedBytes<'_>],
     room: &mut [u8],
     length: &mut usize,
 ) -> u8

@@ -5,7 +5,7 @@ use Rattle.std.specs.List.{range_with_len}
 use Rattle.cudf_text.specs.Lines.{lines}
 use Rattle.cudf_job.specs.Keys.{never_descend}
 use Rattle.cudf_problem.specs.Universe.{PlainProblem}
-use Rattle.cudf_lrat.specs.Answers.{PlainAnswer, Taken, answer_after, checked, checked_from, core, done, fault, faulty, is_listed, needs, on, refuted, taken, unless_empty}
+use Rattle.cudf_lrat.specs.Answers.{PlainAnswer, ProofState, answer_after, checked, checked_from, core, done, fault, faulty, is_listed, needs, on, refuted, taken, unless_empty}
 use Rattle.cudf_lrat.specs.Lines.{is_empty, proof_line}
 use Rattle.cudf_lrat.specs.Steps.{Derived, greatest_number}
 use Rattle.cudf_lrat.specs.declared.cnf.Literal.{Literal}
@@ -26,7 +26,7 @@ abbrev IsCoreOf : List (List Literal) → List ℕ → Type 0
 IsCoreOf clauses numbers = ((n : ℕ) × (numbers ≡ n ∷ [])) ⊎ ((steps : List Derived) × (numbers ≡ core clauses steps))
 
 after_line : (clauses : List (List Literal)) (numbers : List ℕ) (line : ℕ) (next : List Derived → PlainAnswer)
-    → ((steps : List Derived) → next steps ≡ refuted numbers → IsCoreOf clauses numbers) → (t : Taken) → answer_after clauses line t next ≡ refuted numbers → IsCoreOf clauses numbers
+    → ((steps : List Derived) → next steps ≡ refuted numbers → IsCoreOf clauses numbers) → (t : ProofState) → answer_after clauses line t next ≡ refuted numbers → IsCoreOf clauses numbers
 after_line clauses numbers line next rest (on steps) is = rest steps is
 after_line clauses numbers line next rest (done steps) is = inr (steps, sym (ap numbers_in is))
 after_line clauses numbers line next rest (fault kind) is = absurd (cc is)

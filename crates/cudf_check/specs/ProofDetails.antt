@@ -3,7 +3,7 @@ use Rattle.std.specs.Prelude.{ℕ, Bool, List, [], ◌++◌, codes, decimal, Opt
 use Rattle.std.specs.Option.{option_or}
 use Rattle.cudf_document.specs.Details.{format_of}
 use Rattle.cudf_lrat.specs.Details.{PlainDetail, binary, no_hints, line_text, clause_count, fault_detail}
-use Rattle.cudf_lrat.specs.declared.checker.Kind.{Kind}
+use Rattle.cudf_lrat.specs.declared.checker.ProofFault.{ProofFault}
 use Rattle.cudf_check.specs.Explanations.{format_text}
 use Rattle.cudf_check.specs.Shown.{clipped}
 
@@ -23,8 +23,8 @@ text_added None = []
 text_added (Some text) = codes "; " ++ text
 
 -- of a CNF with so many clauses, beside the fault of this kind on a line of the proof
-unfoldable pub proof_explained : List ℕ → ℕ → ℕ → Kind → List ℕ
+unfoldable pub proof_explained : List ℕ → ℕ → ℕ → ProofFault → List ℕ
 proof_explained proof clauses number kind = text_added (proof_text proof (fault_detail clauses proof number kind))
 
-abbrev pub proof_added : Bool → List ℕ → ℕ → ℕ → Kind → List ℕ
+abbrev pub proof_added : Bool → List ℕ → ℕ → ℕ → ProofFault → List ℕ
 proof_added explain proof clauses number kind = if explain then proof_explained proof clauses number kind else []

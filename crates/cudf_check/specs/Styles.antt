@@ -4,7 +4,7 @@ use Rattle.cudf_text.specs.declared.fault.Fault.{Fault}
 use Rattle.cudf_problem.specs.Universe.{PlainProblem}
 use Rattle.cudf_job.specs.declared.key.Part.{Part}
 use Rattle.cudf_job.specs.declared.key.Part.TheVariants as part
-use Rattle.cudf_lrat.specs.declared.checker.Kind.{Kind}
+use Rattle.cudf_lrat.specs.declared.checker.ProofFault.{ProofFault}
 use Rattle.cudf_referee.specs.Instances.{PlainInstance}
 use Rattle.cudf_referee.specs.Proposals.{Proposal}
 
@@ -27,7 +27,7 @@ pub record Style : Type 0 where
   pub added_to_fault : Document → Fault → List ℕ
   pub added_to_instance : Proposal → PlainInstance → List ℕ
   pub added_to_reason : PlainProblem → PlainInstance → List ℕ
-  pub added_to_proof : ℕ → ℕ → Kind → List ℕ
+  pub added_to_proof : ℕ → ℕ → ProofFault → List ℕ
 
 -- no line names a file or is explained
 abbrev pub plainly : Style

@@ -3,6 +3,6 @@ pub mod Found
 pub mod Judged
 pub mod Named
 pub mod Pages
-pub mod Said
+pub mod ProofNote
 pub mod Scribes
 pub mod Unjudged

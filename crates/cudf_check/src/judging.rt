@@ -29,7 +29,7 @@ use std::alloc::{AllocError, Global};
 
 /// Why the solutions aren't ranked.
 #[derive(Drop)]
-pub(crate) struct Unranked {
+pub(crate) struct RankingError {
     /// The place of the solution, from 1.
     pub(crate) place: u64,
     pub(crate) error: ReadError,
@@ -83,7 +83,7 @@ pub(crate) fn judge_each(
     setting: Setting,
     problem: &Problem<'_>,
     solutions: &[Vec<u8>],
-) -> Result<Vec<Entrant>, Unranked>
+) -> Result<Vec<Entrant>, RankingError>
     ensures judged { IfOk result (λ ss. AreJudged setting.mode problem.now (map (λ b. b.items) solutions.now) ss.items) }
     ensures unranked { IfErr result (IsUnranked setting.mode problem.now (map (λ b. b.items) solutions.now)) }
 {
@@ -94,10 +94,10 @@ pub(crate) fn judge_each(
             Ok(judgement) => {
                 if entrants.push(Entrant { place, judgement }).is_err() {
                     let error = ReadError::Memory(AllocError);
-                    return Err(Unranked { place, error });
+                    return Err(RankingError { place, error });
                 }
             }
-            Err(error) => return Err(Unranked { place, error }),
+            Err(error) => return Err(RankingError { place, error }),
         }
     }
     Ok(entrants)
@@ -154,7 +154,7 @@ pub(crate) fn best_outcome(entrants: &[Entrant]) -> Outcome
 fn print_unranked<S: Source, W: Sink>(
     paper: &mut Paper<'_, W>,
     sources: &[S],
-    unranked: Unranked,
+    unranked: RankingError,
 ) -> Result<Outcome, AllocError>
     ensures { (first : Option (List ℕ)) → (mode : Mode) → (problem : PlainProblem) → (solutions : _) → (report : Report) → IsUnranked mode problem solutions unranked
         → Prints W.state paper.old paper.new

@@ -18,7 +18,7 @@ use Rattle.cudf_value.specs.Types.{PlainType}
 use Rattle.cudf_value.specs.Misfits.{type_word}
 use Rattle.cudf_problem.specs.declared.problem.Postmark.TheVariants.{Package}
 use Rattle.cudf_problem.specs.declared.problem.Mode.TheVariants.{Strict}
-use Rattle.cudf_document.specs.declared.details.Passed.{Passed}
+use Rattle.cudf_document.specs.declared.details.StanzasBefore.{StanzasBefore}
 use Rattle.cudf_document.specs.Details.{PlainDetail, request_on, package_on, undeclared, misdeclared, lacking, misplaced, stanza_on, property_on, words, bad_piece, package_detail, repeated_detail, misdeclared_detail, property_detail, stanza_detail, text_detail, byte_detail, source_detail, fault_detail}
 use Rattle.cudf_problem.specs.Documents.{is_empty, with_earlier, is_request, has_name}
 use Rattle.cudf_problem.specs.Ids.{Id, id_of, is_known}
@@ -75,7 +75,7 @@ passed_next before s =
     ∙ sym (map_or (λ t. t.line) (find is_request before) (find is_request (s ∷ [])))
     ∙ ap (option_map (λ t. t.line)) (sym (find-append is_request before (s ∷ []))) in
     let declarations = declared_next before s in
-    λ i. let p : Passed = record { is_first = first i; request = request i; declarations = declarations i } in p
+    λ i. let p : StanzasBefore = record { is_first = first i; request = request i; declarations = declarations i } in p
 
 found_in-is : (line : ℕ) (before ss : List PlainStanza)
     → found_in (passed_of before) line ss ≡ option_map (λ q. (passed_of q.0, q.1)) (find (λ q. nat_le line q.1.last) (with_earlier before ss))
@@ -89,7 +89,7 @@ found_in-is line before (s ∷ ss) = by (nat_le line s.last) (ap (λ p. found_in
     by false rest = rest
 
 -- the stanza alone
-found_stanza : (line : ℕ) (p : Passed) (ss : List PlainStanza) → option_map (λ f. f.1) (found_in p line ss) ≡ find (λ s. nat_le line s.last) ss
+found_stanza : (line : ℕ) (p : StanzasBefore) (ss : List PlainStanza) → option_map (λ f. f.1) (found_in p line ss) ≡ find (λ s. nat_le line s.last) ss
 found_stanza line p [] = refl
 found_stanza line p (s ∷ ss) = by (nat_le line s.last) (found_stanza line (passed_with p s) ss)
   where
@@ -255,11 +255,11 @@ pair_fault text f h =
     by (Some (before, s)) on = at before s on (id_of s) ∙ sym (of_pair f.kind f.line before s h)
 
 -- the pair of the stanza that is found
-pub pair_found : (line : ℕ) (ss : List PlainStanza) (x : Option (Passed × PlainStanza)) → x ≡ found_in nothing_passed line ss
+pub pair_found : (line : ℕ) (ss : List PlainStanza) (x : Option (StanzasBefore × PlainStanza)) → x ≡ found_in nothing_passed line ss
     → option_and_then (λ f. id_of f.1) x ≡ option_and_then id_of (find (λ s. nat_le line s.last) ss)
 pair_found line ss x found = by x ∙ ap (λ y. option_and_then id_of (option_map (λ f. f.1) y)) found ∙ ap (option_and_then id_of) (found_stanza line nothing_passed ss)
   where
-    by : (y : Option (Passed × PlainStanza)) → option_and_then (λ f. id_of f.1) y ≡ option_and_then id_of (option_map (λ f. f.1) y)
+    by : (y : Option (StanzasBefore × PlainStanza)) → option_and_then (λ f. id_of f.1) y ≡ option_and_then id_of (option_map (λ f. f.1) y)
     by None = refl
     by (Some f) = refl
 

@@ -6,8 +6,8 @@ use Rattle.cudf_text.specs.Stanzas.{PlainProperty}
 use Rattle.cudf_problem.specs.declared.problem.Mode.{Mode}
 use Rattle.cudf_problem.specs.declared.problem.Mode.TheVariants.{Lenient, Strict}
 use Rattle.cudf_problem.specs.declared.problem.Postmark.TheVariants.{Package}
-use Rattle.cudf_document.specs.declared.names.Document.{Document}
-use Rattle.cudf_document.specs.declared.names.Document.TheVariants.{Problem, Solution}
+use Rattle.cudf_document.specs.declared.names.DocumentKind.{DocumentKind}
+use Rattle.cudf_document.specs.declared.names.DocumentKind.TheVariants.{Problem, Solution}
 use Rattle.cudf_document.specs.Faults.{least, fault_if}
 use Rattle.cudf_document.specs.ProblemFaults.{misplaced_faults}
 use Rattle.cudf_document.specs.Working.Misplaced.{misplaces}
@@ -26,10 +26,10 @@ none_misplaced test (p ∷ ps) meant =
     none_misplaced test ps meant ∙ ap (λ b. least (fault_if b p.line E16 ++ flat_map (λ q. fault_if (test q.name) q.line E16) ps)) (sym (meant p.name))
 
 -- of a package, and where there is no postmark, each has one
-pub meant_in_package : (document : Document) (name : List ℕ) → misplaces document (Some Package) name ≡ false
+pub meant_in_package : (document : DocumentKind) (name : List ℕ) → misplaces document (Some Package) name ≡ false
 meant_in_package Problem name = refl
 meant_in_package Solution name = refl
 
-pub meant_unmarked : (document : Document) (name : List ℕ) → misplaces document None name ≡ false
+pub meant_unmarked : (document : DocumentKind) (name : List ℕ) → misplaces document None name ≡ false
 meant_unmarked Problem name = refl
 meant_unmarked Solution name = refl

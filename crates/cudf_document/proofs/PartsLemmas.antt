@@ -5,7 +5,7 @@ use Rattle.cudf_text.specs.Stanzas.{PlainStanza, PlainText}
 use Rattle.cudf_value.specs.Declarations.{PlainDeclaration}
 use Rattle.cudf_problem.specs.declared.problem.Mode.{Mode}
 use Rattle.cudf_document.specs.declared.problem.keeping.Parts.{Parts}
-use Rattle.cudf_document.specs.declared.problem.walk.Walk.{Walk}
+use Rattle.cudf_document.specs.declared.problem.walk.ProblemState.{ProblemState}
 use Rattle.cudf_problem.specs.declared.problem.Postmark.{Postmark}
 use Rattle.cudf_problem.specs.declared.problem.Postmark.TheVariants.{Preamble, Package, Request}
 use Rattle.cudf_problem.specs.Documents.{is_empty, postmark, marks, is_request}
@@ -76,10 +76,10 @@ passed keeps before s p no_package no_request was = by (postmark s) refl
 
 -- ---- the whole text
 
-pub faultless : (mode : Mode) (IsKept : List PlainStanza → Type 0) (w : Walk) (text : PlainText) → IsWhole mode IsKept w text → w.first ≡ None → problem_faults text mode ≡ []
+pub faultless : (mode : Mode) (IsKept : List PlainStanza → Type 0) (w : ProblemState) (text : PlainText) → IsWhole mode IsKept w text → w.first ≡ None → problem_faults text mode ≡ []
 faultless mode IsKept w text whole none = least-none (problem_faults text mode) (sym whole.first_is ∙ none)
 
-module _ (p : Parts) (w : Walk) (text : PlainText) (mode : Mode) (whole : IsWhole mode (λ ss. AreParts true ss p) w text) where
+module _ (p : Parts) (w : ProblemState) (text : PlainText) (mode : Mode) (whole : IsWhole mode (λ ss. AreParts true ss p) w text) where
   requested : w.first ≡ None → is_some (gathered_of w p).request ≡ true
   requested none =
       ap is_some (whole.kept none).request_is ∙ is_some-option_map request_of (find is_request text.stanzas) ∙ is_some-find is_request text.stanzas

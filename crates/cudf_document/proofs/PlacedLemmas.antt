@@ -13,7 +13,7 @@ use Rattle.std.specs.List.{list_any, prefix_len, enumerate_from, cons_option}
 use Rattle.std.specs.Option.{option_map_or}
 use Rattle.cudf_text.specs.Stanzas.{PlainStanza}
 use Rattle.cudf_problem.specs.declared.solution.Solution.{Solution}
-use Rattle.cudf_document.specs.declared.solution.Placed.{Placed}
+use Rattle.cudf_document.specs.declared.solution.InstalledFlags.{InstalledFlags}
 use Rattle.cudf_problem.specs.Ids.{Id, is_id, is_among}
 use Rattle.cudf_problem.specs.Promises.Packages.{are_distinct}
 use Rattle.cudf_problem.specs.Promises.Statuses.{are_outside, installed_with, installed_of, installed_stanzas}
@@ -21,7 +21,7 @@ use Rattle.cudf_problem.specs.Promises.Views.{unknown_view}
 use Rattle.cudf_problem.specs.Statuses.{PlainUnknown, installed_id, is_proposed, unknown_of, ascend_above}
 use Rattle.cudf_problem.specs.Universe.{PlainPackage, PlainProblem, package_id}
 use Rattle.cudf_problem.specs.Working.Flags.{flag_at}
-use Rattle.cudf_document.specs.Working.Placed.{ids_of, pair_of, if_outside, IsPlaced, IsSolutionOf}
+use Rattle.cudf_document.specs.Working.InstalledFlags.{ids_of, pair_of, if_outside, IsPlaced, IsSolutionOf}
 use Rattle.cudf_document.proofs.BuilderLemmas.{same_pair}
 use Rattle.cudf_problem.proofs.IdLemmas.{distinct-places}
 use Rattle.cudf_problem.proofs.FlagLemmas.{flag_at-flags}
@@ -137,7 +137,7 @@ none_flagged (id ∷ ids) = ap (λ l. false ∷ l) (none_flagged ids)
 
 -- ---- one more stanza that installs a pair
 
-pub IsPlaced-next : (problem : PlainProblem) (before : List PlainUnknown) (u : PlainUnknown) (old new : Placed) (o : Option ℕ)
+pub IsPlaced-next : (problem : PlainProblem) (before : List PlainUnknown) (u : PlainUnknown) (old new : InstalledFlags) (o : Option ℕ)
     → are_distinct (ids_of problem) ≡ true → o ≡ position (is_id (pair_of u)) (ids_of problem) → IsPlaced problem before old
     → new.flags.items ≡ set_flag o old.flags.items → map unknown_view new.unknown.items ≡ map unknown_view old.unknown.items ++ (if is_some o then [] else u ∷ [])
     → IsPlaced problem (before ++ u ∷ []) new
@@ -184,7 +184,7 @@ flags_propose problem stanzas place = by (place == 0)
     by false = ap (λ o. option_map_or (is_among (installed_ids stanzas)) o false) (slice_get-map package_id problem.packages (place - 1)) ∙ through (slice_get problem.packages (place - 1))
 
 -- placed it is what the stanzas propose
-pub IsSolutionOf-placed : (problem : PlainProblem) (stanzas : List PlainStanza) (installed : List PlainUnknown) (p : Placed) (s : Solution)
+pub IsSolutionOf-placed : (problem : PlainProblem) (stanzas : List PlainStanza) (installed : List PlainUnknown) (p : InstalledFlags) (s : Solution)
     → installed ≡ installed_stanzas stanzas → IsPlaced problem installed p
     → ((place : ℕ) → finset.contains s.status place ≡ flag_at p.flags.items place) → s.unknown.items ≡ p.unknown.items
     → IsSolutionOf problem stanzas s

@@ -6,7 +6,7 @@ use Rattle.std.specs.List.{flat_map, enumerate_from, cons_option}
 use Rattle.cudf_text.specs.declared.fault.Fault.{Fault}
 use Rattle.cudf_text.specs.Stanzas.{PlainStanza, PlainText}
 use Rattle.cudf_problem.specs.declared.problem.Mode.{Mode}
-use Rattle.cudf_document.specs.declared.proposed.Reader.{Reader}
+use Rattle.cudf_document.specs.declared.proposed.SolutionState.{SolutionState}
 use Rattle.cudf_document.specs.Faults.{lesser, least}
 use Rattle.cudf_problem.specs.Ids.{Id}
 use Rattle.cudf_problem.specs.Promises.Statuses.{installed_with, installed_of, installed_stanzas}
@@ -15,7 +15,7 @@ use Rattle.cudf_document.specs.SolutionFaults.{solution_stanza_faults, repeated_
 use Rattle.cudf_problem.specs.Statuses.{installed_id}
 use Rattle.cudf_document.specs.Working.Extras.{AreExtras, names_with}
 use Rattle.cudf_document.specs.Working.Pairs.{ArePairs}
-use Rattle.cudf_document.specs.Working.Placed.{pair_of}
+use Rattle.cudf_document.specs.Working.InstalledFlags.{pair_of}
 use Rattle.cudf_document.specs.Working.Proposed.{IsRead, GoesOn}
 use Rattle.cudf_document.proofs.FaultLemmas.{least-append, faults-push}
 use Rattle.cudf_problem.proofs.ListLemmas.{as_list}
@@ -56,7 +56,7 @@ still_declared : (names : List (List ℕ)) (mode : Mode) (seen : List PlainStanz
 still_declared names mode [] s = refl
 still_declared names mode (x ∷ seen) s = refl
 
-pub IsRead-next : (mode : Mode) (names : List (List ℕ)) (old new : Reader) (seen : List PlainStanza) (s : PlainStanza) (fault : Option Fault) (id : Option Id)
+pub IsRead-next : (mode : Mode) (names : List (List ℕ)) (old new : SolutionState) (seen : List PlainStanza) (s : PlainStanza) (fault : Option Fault) (id : Option Id)
     → IsRead mode names seen old → AreExtras mode names (seen ++ s ∷ []) new.extras
     → ArePairs mode (seen ++ s ∷ []) new.pairs → fault ≡ least (solution_stanza_faults mode (names_with names (seen ++ s ∷ [])) s) → new.first ≡ lesser old.first fault → id ≡ installed_id s → new.number ≡ old.number + 1
     → map unknown_view new.installed.items ≡ map unknown_view old.installed.items ++ option_to_list (option_map (installed_with new.number s.line) id)
@@ -77,7 +77,7 @@ IsRead-next mode names old new seen s fault id so_far extras_are pairs_are fault
 -- ---- all of them
 
 -- the first fault is the pairs', the line's or the stanzas'
-pub solution_least : (mode : Mode) (names : List (List ℕ)) (text : PlainText) (r : Reader) (fault : Option Fault)
+pub solution_least : (mode : Mode) (names : List (List ℕ)) (text : PlainText) (r : SolutionState) (fault : Option Fault)
     → fault ≡ text.fault → IsRead mode names text.stanzas r → lesser r.pairs.first (lesser fault r.first) ≡ least (solution_faults text mode names)
 unfolding solution_faults
 solution_least mode names text r fault fault_is read =
@@ -98,7 +98,7 @@ solution_least mode names text r fault fault_is read =
 
 -- ---- read from a cursor
 
-pub GoesOn-next : (mode : Mode) (names : List (List ℕ)) (old new : Reader) (left later text : PlainText) (s : PlainStanza)
+pub GoesOn-next : (mode : Mode) (names : List (List ℕ)) (old new : SolutionState) (left later text : PlainText) (s : PlainStanza)
     → GoesOn mode names old left text → ◌≡◌ {A = PlainText} left (record later { stanzas = s ∷ later.stanzas })
     → ((seen : List PlainStanza) → IsRead mode names seen old → IsRead mode names (seen ++ s ∷ []) new)
     → GoesOn mode names new later text
@@ -110,11 +110,11 @@ GoesOn-next mode names old new left later text s goes read takes = record {
 }
 
 -- the text's first faulty line, and all its stanzas are read
-pub record IsReadWhole (mode : Mode) (names : List (List ℕ)) (r : Reader) (fault : Option Fault) (text : PlainText) : Type 0 where
+pub record IsReadWhole (mode : Mode) (names : List (List ℕ)) (r : SolutionState) (fault : Option Fault) (text : PlainText) : Type 0 where
   pub fault_is : fault ≡ text.fault
   pub read : IsRead mode names text.stanzas r
 
-pub GoesOn-end : (mode : Mode) (names : List (List ℕ)) (r : Reader) (left text : PlainText) (fault : Option Fault) (lines : ℕ)
+pub GoesOn-end : (mode : Mode) (names : List (List ℕ)) (r : SolutionState) (left text : PlainText) (fault : Option Fault) (lines : ℕ)
     → GoesOn mode names r left text → ◌≡◌ {A = PlainText} left (record { stanzas = []; fault = fault; lines = lines })
     → IsReadWhole mode names r fault text
 GoesOn-end mode names r left text fault lines goes read =

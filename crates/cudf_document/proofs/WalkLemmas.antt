@@ -8,7 +8,7 @@ use Rattle.cudf_text.specs.declared.fault.Fault.{Fault}
 use Rattle.cudf_text.specs.Stanzas.{PlainStanza, PlainText}
 use Rattle.cudf_problem.specs.declared.problem.Mode.{Mode}
 use Rattle.cudf_problem.specs.declared.problem.Mode.TheVariants.{Lenient, Strict}
-use Rattle.cudf_document.specs.declared.problem.walk.Walk.{Walk}
+use Rattle.cudf_document.specs.declared.problem.walk.ProblemState.{ProblemState}
 use Rattle.cudf_problem.specs.declared.problem.Postmark.{Postmark}
 use Rattle.cudf_problem.specs.declared.problem.Postmark.TheVariants.{Preamble, Package, Request}
 use Rattle.cudf_document.specs.Faults.{lesser, least, fault_if}
@@ -29,22 +29,22 @@ use Rattle.cudf_document.proofs.BuilderLemmas.{problem_least, requested_is, stan
 
 -- ---- the walk
 
-abbrev as_builder : Walk → List PlainStanza → PlainBuilder
+abbrev as_builder : ProblemState → List PlainStanza → PlainBuilder
 as_builder k before = record { declared = k.declarations; ids = k.ids; packages = packages_in before; request = request_in before }
 
-is_built : (mode : Mode) (k : Walk) (before : List PlainStanza) → IsKnown mode k before → k.declarations ≡ declared before → IsBuilt (as_builder k before) before
+is_built : (mode : Mode) (k : ProblemState) (before : List PlainStanza) → IsKnown mode k before → k.declarations ≡ declared before → IsBuilt (as_builder k before) before
 is_built mode k before so_far ds = record { declared_are = ds; ids_are = so_far.ids_are; packages_are = refl; request_is = refl }
 
-judged_inside : (mark : Option Postmark) (required : List (List ℕ)) (k : Walk) (before : List PlainStanza) (s : PlainStanza)
+judged_inside : (mark : Option Postmark) (required : List (List ℕ)) (k : ProblemState) (before : List PlainStanza) (s : PlainStanza)
     → judged_faults mark required k.declarations k.ids s ≡ faults_inside mark required (as_builder k before) s
 judged_inside (Some Package) required k before s = refl
 judged_inside _ required k before s = refl
 
-ids_inside : (mark : Option Postmark) (is_first : Bool) (k : Walk) (before : List PlainStanza) (s : PlainStanza) → judged_ids mark k.ids s ≡ (with_stanza mark is_first s (as_builder k before)).ids
+ids_inside : (mark : Option Postmark) (is_first : Bool) (k : ProblemState) (before : List PlainStanza) (s : PlainStanza) → judged_ids mark k.ids s ≡ (with_stanza mark is_first s (as_builder k before)).ids
 ids_inside (Some Package) is_first k before s = refl
 ids_inside _ is_first k before s = refl
 
-pub IsKnown-next : (mode : Mode) (required : List (List ℕ)) (old new : Walk) (before : List PlainStanza) (s : PlainStanza) (mark : Option Postmark) (is_first : Bool) (place inside stray : Option Fault)
+pub IsKnown-next : (mode : Mode) (required : List (List ℕ)) (old new : ProblemState) (before : List PlainStanza) (s : PlainStanza) (mark : Option Postmark) (is_first : Bool) (place inside stray : Option Fault)
     → is_first ≡ is_empty before → old.declarations ≡ declared before → required ≡ required_names mode (declared before) → IsKnown mode old before → mark ≡ postmark s
     → place ≡ least (placed_faults is_first old.requested mark s.line) → inside ≡ least (judged_faults mark required old.declarations old.ids s)
     → stray ≡ least (misplaced_faults mode (problem_misplaces mark) s.properties)
@@ -84,7 +84,7 @@ preamble_mark : (mark : Option Postmark) → marks Preamble mark ≡ true → ma
 preamble_mark (Some Preamble) h = refl
 preamble_mark _ h = absurd cc
 
-IsKnown-preamble : (mode : Mode) (old new : Walk) (s : PlainStanza) → is_preamble s ≡ true → old.declarations ≡ [] → IsKnown mode old []
+IsKnown-preamble : (mode : Mode) (old new : ProblemState) (s : PlainStanza) → is_preamble s ≡ true → old.declarations ≡ [] → IsKnown mode old []
     → new.first ≡ lesser old.first (lesser (least (properties_faults [] (Some Preamble) s.properties)) (least (misplaced_faults mode (problem_misplaces (Some Preamble)) s.properties)))
     → new.ids ≡ old.ids → new.requested ≡ old.requested
     → IsKnown mode new (s ∷ [])
@@ -94,7 +94,7 @@ IsKnown-preamble mode old new s marked ds so_far first ids requested =
     (sym (preamble_mark (postmark s) marked))
     (ap (λ late. least (placed_faults true late (Some Preamble) s.line)) (sym so_far.requested_is)) refl refl first ids requested
 
-pub IsKnown-head : {A E : Type 0} (r : Result A E) (mode : Mode) (old new : Walk) (s : PlainStanza) → is_preamble s ≡ true → old.declarations ≡ [] → IsKnown mode old []
+pub IsKnown-head : {A E : Type 0} (r : Result A E) (mode : Mode) (old new : ProblemState) (s : PlainStanza) → is_preamble s ≡ true → old.declarations ≡ [] → IsKnown mode old []
     → OnOk r (new.first ≡ lesser old.first (lesser (least (properties_faults [] (Some Preamble) s.properties)) (least (misplaced_faults mode (problem_misplaces (Some Preamble)) s.properties))))
     → OnOk r (new.ids ≡ old.ids) → OnOk r (new.requested ≡ old.requested) → OnOk r (IsKnown mode new (s ∷ []))
 IsKnown-head (Ok v) mode old new s marked ds so_far first ids requested = IsKnown-preamble mode old new s marked ds so_far first ids requested
@@ -112,7 +112,7 @@ none_behind (Some f) None h = absurd cc
 none_behind (Some f) (Some g) h = absurd cc
 
 -- nothing is left after these stanzas
-all_known : (mode : Mode) (Kept : List PlainStanza → Type 0) (old new : Walk) (now : List PlainStanza) (left text : PlainText) (fault : Option Fault) (lines : ℕ)
+all_known : (mode : Mode) (Kept : List PlainStanza → Type 0) (old new : ProblemState) (now : List PlainStanza) (left text : PlainText) (fault : Option Fault) (lines : ℕ)
     → old.declarations ≡ declared now → IsKnown mode old now → (old.first ≡ None → Kept now)
     → ◌≡◌ {A = PlainText} (record left { stanzas = now ++ left.stanzas }) text → ◌≡◌ {A = PlainText} left (record { stanzas = []; fault = fault; lines = lines })
     → new.first ≡ lesser (lesser fault old.first) (least (fault_if (not old.requested) (max 1 lines) E13))
@@ -137,10 +137,10 @@ all_known mode Kept old new now left text fault lines ds knows keeps whole read 
 
 -- ---- one stanza more
 
-pub IsSoFar-none : (mode : Mode) (Kept : List PlainStanza → Type 0) (k : Walk) → k.declarations ≡ [] → IsKnown mode k [] → Kept [] → IsSoFar mode Kept k []
+pub IsSoFar-none : (mode : Mode) (Kept : List PlainStanza → Type 0) (k : ProblemState) → k.declarations ≡ [] → IsKnown mode k [] → Kept [] → IsSoFar mode Kept k []
 IsSoFar-none mode Kept k ds knows keeps = record { declared_are = ds; known = knows; kept = λ none. keeps }
 
-pub IsSoFar-first : {A E : Type 0} (r : Result A E) (mode : Mode) (Old New : List PlainStanza → Type 0) (old new : Walk) (before : List PlainStanza) (s : PlainStanza)
+pub IsSoFar-first : {A E : Type 0} (r : Result A E) (mode : Mode) (Old New : List PlainStanza → Type 0) (old new : ProblemState) (before : List PlainStanza) (s : PlainStanza)
     → true ≡ is_empty before → IsSoFar mode Old old before
     → (old.declarations ≡ [] → IsKnown mode old [] → OnOk r (IsKnown mode new (s ∷ [])))
     → (old.declarations ≡ [] → OnOk r (new.declarations ≡ declared (s ∷ [])))
@@ -155,7 +155,7 @@ IsSoFar-first (Ok v) mode Old New old new [] s first so_far knows ds was keeps =
 IsSoFar-first (Err e) mode Old New old new [] s first so_far knows ds was keeps = tt
 IsSoFar-first r mode Old New old new (t ∷ before) s first so_far knows ds was keeps = absurd cc
 
-pub IsSoFar-next : {A E : Type 0} (r : Result A E) (mode : Mode) (Old New : List PlainStanza → Type 0) (old new : Walk) (before : List PlainStanza) (s : PlainStanza)
+pub IsSoFar-next : {A E : Type 0} (r : Result A E) (mode : Mode) (Old New : List PlainStanza → Type 0) (old new : ProblemState) (before : List PlainStanza) (s : PlainStanza)
     → false ≡ is_empty before → IsSoFar mode Old old before
     → OnOk r (IsKnown mode new (before ++ s ∷ []))
     → OnOk r (new.declarations ≡ old.declarations)
@@ -169,7 +169,7 @@ IsSoFar-next (Ok v) mode Old New old new before s later so_far knows same was ke
 }
 IsSoFar-next (Err e) mode Old New old new before s later so_far knows same was keeps = tt
 
-pub IsSoFar-end : (mode : Mode) (Kept : List PlainStanza → Type 0) (old new : Walk) (text : PlainText) → IsSoFar mode Kept old text.stanzas
+pub IsSoFar-end : (mode : Mode) (Kept : List PlainStanza → Type 0) (old new : ProblemState) (text : PlainText) → IsSoFar mode Kept old text.stanzas
     → new.first ≡ lesser (lesser text.fault old.first) (least (fault_if (not old.requested) (max 1 text.lines) E13))
     → new.declarations ≡ old.declarations → new.ids ≡ old.ids → IsWhole mode Kept new text
 IsSoFar-end mode Kept old new text so_far first same_ds same_ids =
@@ -178,7 +178,7 @@ IsSoFar-end mode Kept old new text so_far first same_ds same_ids =
     (λ i. let t : PlainText = record text { stanzas = append-nil text.stanzas i } in t) refl first same_ds same_ids
 
 -- what is required by these stanzas, after one more
-pub required_next : (mode : Mode) (is_first : Bool) (old new : List (List ℕ)) (k : Walk) (before : List PlainStanza) (s : PlainStanza) → is_first ≡ is_empty before
+pub required_next : (mode : Mode) (is_first : Bool) (old new : List (List ℕ)) (k : ProblemState) (before : List PlainStanza) (s : PlainStanza) → is_first ≡ is_empty before
     → k.declarations ≡ declared (before ++ s ∷ []) → old ≡ required_names mode (declared before)
     → (IsTrue is_first → new ≡ required_names mode k.declarations) → (IsTrue (not is_first) → new ≡ old) → new ≡ required_names mode (declared (before ++ s ∷ []))
 required_next mode true old new k [] s first ds old_is here later = here refl ∙ ap (required_names mode) ds
@@ -188,7 +188,7 @@ required_next mode false old new k (t ∷ before) s first ds old_is here later =
 
 -- ---- the stanzas of a text, one after the other
 
-pub GoesOn-start : (mode : Mode) (Kept : List PlainStanza → Type 0) (k : Walk) (required : List (List ℕ)) (text : PlainText)
+pub GoesOn-start : (mode : Mode) (Kept : List PlainStanza → Type 0) (k : ProblemState) (required : List (List ℕ)) (text : PlainText)
     → IsSoFar mode Kept k [] → required ≡ [] → GoesOn mode Kept k true required text text
 GoesOn-start mode Kept k required text start none = record {
   now = [];
@@ -198,7 +198,7 @@ GoesOn-start mode Kept k required text start none = record {
   whole = refl;
 }
 
-pub GoesOn-next : (mode : Mode) (Old New : List PlainStanza → Type 0) (old new : Walk) (is_first : Bool) (before required : List (List ℕ)) (left later text : PlainText) (s : PlainStanza)
+pub GoesOn-next : (mode : Mode) (Old New : List PlainStanza → Type 0) (old new : ProblemState) (is_first : Bool) (before required : List (List ℕ)) (left later text : PlainText) (s : PlainStanza)
     → GoesOn mode Old old is_first before left text
     → ◌≡◌ {A = PlainText} left (record later { stanzas = s ∷ later.stanzas })
     → ((now : List PlainStanza) → is_first ≡ is_empty now → before ≡ required_names mode (declared now) → IsSoFar mode Old old now → IsSoFar mode New new (now ++ s ∷ []))
@@ -215,7 +215,7 @@ GoesOn-next mode Old New old new is_first before required left later text s goes
           ∙ (λ i. let t : PlainText = record (sym read i) { stanzas = goes.now ++ (sym read i).stanzas } in t) ∙ goes.whole;
     }
 
-pub GoesOn-end : (mode : Mode) (Kept : List PlainStanza → Type 0) (old new : Walk) (is_first : Bool) (required : List (List ℕ)) (left text : PlainText) (fault : Option Fault) (lines : ℕ)
+pub GoesOn-end : (mode : Mode) (Kept : List PlainStanza → Type 0) (old new : ProblemState) (is_first : Bool) (required : List (List ℕ)) (left text : PlainText) (fault : Option Fault) (lines : ℕ)
     → GoesOn mode Kept old is_first required left text
     → ◌≡◌ {A = PlainText} left (record { stanzas = []; fault = fault; lines = lines })
     → new.first ≡ lesser (lesser fault old.first) (least (fault_if (not old.requested) (max 1 lines) E13))

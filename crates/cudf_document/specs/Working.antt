@@ -6,7 +6,7 @@ pub mod Kept
 pub mod Misplaced
 pub mod Pairs
 pub mod PackageFields
-pub mod Placed
+pub mod InstalledFlags
 pub mod ProblemBuilders
 pub mod Proposed
 pub mod Reads

@@ -276,6 +276,7 @@ fn push_required<'t>(names: &mut Vec<&'t str>, declared: &Declared<'t>) -> Resul
     Ok(names.push(declared.name())?)
 }
 
+// for the prover: a branch in the caller would double its goals
 fn both(one: bool, other: bool) -> bool
     ensures { result ≡ (one && other) }
 {

@@ -100,7 +100,7 @@ pub enum Format {
 /// What is reported of a fault in this stanza.
 pub(crate) fn told<'t>(
     alloc: Global,
-    found: &Found<'t>,
+    found: &FoundStanza<'t>,
     fault: Fault,
 ) -> Result<Option<Detail<'t>>, AllocError>
     ensures { IfOk result (λ d.
@@ -206,7 +206,7 @@ fn find_line<'s, 't>(properties: &'s [PropertyRef<'t>], line: u64) -> Option<&'s
 
 /// What was passed on the way to a stanza.
 #[derive(Drop)]
-pub(crate) struct Passed<'t> {
+pub(crate) struct StanzasBefore<'t> {
     /// Whether nothing was: the next stanza is the first.
     pub(crate) is_first: bool,
     /// The line of the first request.
@@ -215,7 +215,7 @@ pub(crate) struct Passed<'t> {
     pub(crate) declarations: Declarations<'t>,
 }
 
-impl<'t> Passed<'t> {
+impl<'t> StanzasBefore<'t> {
     ghost use Rattle.std.specs.Prelude.{◌≡◌, OnOk};
     ghost use Rattle.cudf_text.specs.Promises.Views.{stanza_view};
     ghost use Rattle.cudf_document.specs.Working.Details.{nothing_passed, passed_with};
@@ -223,7 +223,7 @@ impl<'t> Passed<'t> {
     fn new(alloc: Global) -> Self
         ensures { result ≡ nothing_passed }
     {
-        Passed {
+        StanzasBefore {
             is_first: true,
             request: None,
             declarations: Declarations::new(alloc),
@@ -256,8 +256,8 @@ fn request_line(stanza: &StanzaRef<'_>) -> Option<u64>
 
 /// A stanza, after what was passed before it.
 #[derive(Drop)]
-pub(crate) struct Found<'t> {
-    pub(crate) passed: Passed<'t>,
+pub(crate) struct FoundStanza<'t> {
+    pub(crate) passed: StanzasBefore<'t>,
     pub(crate) stanza: StanzaRef<'t>,
 }
 
@@ -266,24 +266,24 @@ pub(crate) fn find_stanza<'t>(
     alloc: Global,
     stanzas: Stanzas<'t>,
     line: u64,
-) -> Result<Option<Found<'t>>, AllocError>
+) -> Result<Option<FoundStanza<'t>>, AllocError>
     ensures { IfOk result (λ found.
         option_map found_view found ≡ found_in nothing_passed line stanzas.entry.stanzas) }
 {
     let mut stanzas = stanzas;
-    let mut passed = Passed::new(alloc);
+    let mut passed = StanzasBefore::new(alloc);
     let mut stanza = StanzaRef {
         line: 0,
         last: 0,
         properties: Vec::new(alloc),
     };
-    'stanzas: loop {
+    'stanzas: loop { // for the prover
         match stanzas.next(alloc, &mut stanza.properties)? {
             Next::Stanza { line: first, last } => {
                 stanza.line = first;
                 stanza.last = last;
                 if line <= last {
-                    return Ok(Some(Found { passed, stanza }));
+                    return Ok(Some(FoundStanza { passed, stanza }));
                 }
                 passed.take(alloc, &stanza)?;
             }

@@ -139,14 +139,14 @@ fn find_property<'s, 'a>(
 
 /// What document a stanza is of.
 #[derive(Clone, Copy)]
-pub(crate) enum Document {
+pub(crate) enum DocumentKind {
     Problem,
     Solution,
 }
 
 /// Strictly, the first fault of a property whose name has no meaning in a stanza with this postmark.
 pub(crate) fn misplaced_fault(
-    document: Document,
+    document: DocumentKind,
     mode: Mode,
     mark: Option<Postmark>,
     stanza: &StanzaRef<'_>,
@@ -162,7 +162,7 @@ pub(crate) fn misplaced_fault(
 
 /// The first fault of such a property.
 fn first_misplaced(
-    document: Document,
+    document: DocumentKind,
     mark: Option<Postmark>,
     stanza: &StanzaRef<'_>,
 ) -> Option<Fault>
@@ -176,7 +176,7 @@ fn first_misplaced(
 }
 
 /// The same under a postmark. The names of a package's properties aren't looked at.
-fn misplaced_under(document: Document, mark: Postmark, stanza: &StanzaRef<'_>) -> Option<Fault>
+fn misplaced_under(document: DocumentKind, mark: Postmark, stanza: &StanzaRef<'_>) -> Option<Fault>
     ensures { result
         ≡ least (flat_map (λ p. fault_if (misplaces document (Some mark) p.name) p.line E16) (stanza_view stanza.now).properties) }
 {
@@ -187,7 +187,7 @@ fn misplaced_under(document: Document, mark: Postmark, stanza: &StanzaRef<'_>) -
 }
 
 /// The same, where each name is looked at.
-fn first_of_all(document: Document, mark: Postmark, stanza: &StanzaRef<'_>) -> Option<Fault>
+fn first_of_all(document: DocumentKind, mark: Postmark, stanza: &StanzaRef<'_>) -> Option<Fault>
     ensures { result
         ≡ least (flat_map (λ p. fault_if (misplaces document (Some mark) p.name) p.line E16) (stanza_view stanza.now).properties) }
 {
@@ -200,12 +200,12 @@ fn first_of_all(document: Document, mark: Postmark, stanza: &StanzaRef<'_>) -> O
 }
 
 /// Whether the name has no meaning in a stanza with this postmark.
-fn is_misplaced(document: Document, mark: Postmark, name: &str) -> bool
+fn is_misplaced(document: DocumentKind, mark: Postmark, name: &str) -> bool
     ensures { result ≡ misplaces document (Some mark) name.now }
 {
     match document {
-        Document::Problem => is_misplaced_in_problem(mark, name),
-        Document::Solution => is_misplaced_in_solution(mark, name),
+        DocumentKind::Problem => is_misplaced_in_problem(mark, name),
+        DocumentKind::Solution => is_misplaced_in_solution(mark, name),
     }
 }
 

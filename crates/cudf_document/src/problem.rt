@@ -19,7 +19,7 @@ use crate::declarations::require;
 use crate::fault::{ReadError, fault_on, keep_lesser, mistyped_unless};
 use crate::names::SeenNames;
 use crate::problem::keeping::{NameRoom, Names, Parts};
-use crate::problem::walk::{Walk, walk_all};
+use crate::problem::walk::{ProblemState, walk_all};
 use cudf_problem::{Mode, Problem, Request};
 use cudf_text::{Fault, Kind, PropertyRef, StanzaRef, Stanzas, Text, lend};
 use cudf_value::{VpkgList, read_vpkglist};
@@ -99,11 +99,11 @@ fn walk_held<'t, 'a>(
     alloc: Global,
     text: &'t Text<'a>,
     mode: Mode,
-) -> Result<(Walk<'t>, Parts<'t>), AllocError>
+) -> Result<(ProblemState<'t>, Parts<'t>), AllocError>
     ensures { IfOk result (λ r.
         IsWhole mode (λ ss. AreParts true ss r.1) r.0 (text_view text.now)) }
 {
-    let mut walk: Walk<'t> = Walk::new(alloc);
+    let mut walk: ProblemState<'t> = ProblemState::new(alloc);
     let mut parts: Parts<'t> = Parts::new(alloc, true, None);
     take_lent(alloc, text, &mut walk, &mut parts, mode)?;
     walk.end(text.fault, text.lines);
@@ -114,7 +114,7 @@ fn walk_held<'t, 'a>(
 fn take_lent<'t, 'a>(
     alloc: Global,
     text: &'t Text<'a>,
-    walk: &mut Walk<'t>,
+    walk: &mut ProblemState<'t>,
     parts: &mut Parts<'t>,
     mode: Mode,
 ) -> Result<(), AllocError>

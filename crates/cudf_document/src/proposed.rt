@@ -18,7 +18,7 @@ ghost use Rattle.cudf_document.specs.Working.Judging.{line_of, version_property}
 pub(crate) mod package;
 
 use crate::fault::{ReadError, fault_if, keep_lesser, lesser};
-use crate::names::{Document, first_named, misplaced_fault, postmark_of};
+use crate::names::{DocumentKind, first_named, misplaced_fault, postmark_of};
 use crate::proposed::package::{Extras, read_solution_package};
 use cudf_problem::{Ids, Mode, Postmark, Problem, Unknown};
 use cudf_text::{Fault, Kind, Next, StanzaRef, Stanzas, Text, lend};
@@ -82,13 +82,13 @@ pub fn proposed_of<'t>(
 {
     let mut stanzas = stanzas;
     stanzas.are_countable();
-    let mut reader = Reader::new(alloc, mode, problem)?;
+    let mut reader = SolutionState::new(alloc, mode, problem)?;
     let mut stanza = StanzaRef {
         line: 0,
         last: 0,
         properties: Vec::new(alloc),
     };
-    'stanzas: loop {
+    'stanzas: loop { // for the prover
         match stanzas.next(alloc, &mut stanza.properties)? {
             Next::Stanza { line, last } => {
                 stanza.line = line;
@@ -111,7 +111,7 @@ pub(crate) fn proposed_in<'t, 'a>(
     ensures installed { IfOk result (λ p. p ≡ installed_stanzas (text_view text.now).stanzas) }
     ensures fault { IfErr result (IsFirstFault (solution_faults (text_view text.now) mode problem.now.extra_names)) }
 {
-    let mut reader = Reader::new(alloc, mode, problem)?;
+    let mut reader = SolutionState::new(alloc, mode, problem)?;
     let mut lent = StanzaRef {
         line: 0,
         last: 0,
@@ -126,7 +126,7 @@ pub(crate) fn proposed_in<'t, 'a>(
 
 /// What is known after some stanzas.
 #[derive(Drop)]
-pub(crate) struct Reader<'p, 'a> {
+pub(crate) struct SolutionState<'p, 'a> {
     /// What they and the problem declare.
     pub(crate) extras: Extras<'p, 'a>,
     /// Their first fault, each for itself.
@@ -139,7 +139,7 @@ pub(crate) struct Reader<'p, 'a> {
     pub(crate) installed: Vec<Unknown<'a>>,
 }
 
-impl<'p, 'a> Reader<'p, 'a> {
+impl<'p, 'a> SolutionState<'p, 'a> {
     ghost use Rattle.std.specs.Prelude.{◌≡◌, ◌+◌, ◌<◌, ◌^◌, ℕ, List, [], ◌∷◌, ◌++◌, IfOk, IfErr, OnOk};
     ghost use Rattle.cudf_text.specs.Stanzas.{PlainStanza, PlainText};
     ghost use Rattle.cudf_text.specs.Promises.Views.{stanza_view};
@@ -152,7 +152,7 @@ impl<'p, 'a> Reader<'p, 'a> {
     fn new(alloc: Global, mode: Mode, problem: &Problem<'p>) -> Result<Self, AllocError>
         ensures { IfOk result (IsRead mode problem.now.extra_names []) }
     {
-        Ok(Reader {
+        Ok(SolutionState {
             extras: Extras::new(alloc, mode, problem)?,
             first: None,
             pairs: Pairs::new(alloc, mode),
@@ -199,7 +199,7 @@ impl<'p, 'a> Reader<'p, 'a> {
             IsRead mode names text.stanzas self.entry →
             IfErr result (IsFirstFault (solution_faults text mode names)) }
     {
-        let Reader {
+        let SolutionState {
             first,
             pairs,
             installed,
@@ -269,7 +269,7 @@ pub(crate) fn read_stanza<'a>(stanza: &StanzaRef<'a>, extras: &Extras<'_, '_>) -
             }
         }
         Some(Postmark::Preamble | Postmark::Request) => SaidOfStanza {
-            fault: misplaced_fault(Document::Solution, extras.mode, mark, stanza),
+            fault: misplaced_fault(DocumentKind::Solution, extras.mode, mark, stanza),
             id: None,
             installed: None,
         },

@@ -50,11 +50,11 @@ pub fn solution_of<'t>(
         proposed.entry ≡ installed_stanzas stanzas →
         IfOk result (λ s. IsTrue (are_outside problem.now (map unknown_view s.unknown.items))) }
 {
-    let mut placed = Placed::new(alloc, problem)?;
+    let mut placed = InstalledFlags::new(alloc, problem)?;
     for stanza in proposed.installed() {
         placed.add(problem, *stanza)?;
     }
-    let Placed { flags, unknown } = placed;
+    let InstalledFlags { flags, unknown } = placed;
     Ok(Solution {
         status: Status::from_flags(flags),
         unknown,
@@ -63,22 +63,22 @@ pub fn solution_of<'t>(
 
 /// A flag for each package of the universe, and the stanzas that install something else.
 #[derive(Drop)]
-pub(crate) struct Placed<'t> {
+pub(crate) struct InstalledFlags<'t> {
     pub(crate) flags: Vec<bool>,
     pub(crate) unknown: Vec<Unknown<'t>>,
 }
 
-impl<'t> Placed<'t> {
+impl<'t> InstalledFlags<'t> {
     ghost use Rattle.std.specs.Prelude.{◌≡◌, List, [], ◌∷◌, ◌++◌, length, IfOk, OnOk};
     ghost use Rattle.cudf_problem.specs.Promises.Views.{unknown_view};
     ghost use Rattle.cudf_problem.specs.Statuses.{PlainUnknown};
-    ghost use Rattle.cudf_document.specs.Working.Placed.{IsPlaced};
+    ghost use Rattle.cudf_document.specs.Working.InstalledFlags.{IsPlaced};
 
     /// Before the first stanza.
     fn new(alloc: Global, problem: &Problem<'_>) -> Result<Self, AllocError>
         ensures { IfOk result (IsPlaced problem.now []) }
     {
-        Ok(Placed {
+        Ok(InstalledFlags {
             flags: no_flags(alloc, problem.packages().len())?,
             unknown: Vec::new(alloc),
         })
@@ -166,7 +166,7 @@ pub fn stanza_lines(
         last: 0,
         properties: Vec::new(alloc),
     };
-    'stanzas: loop {
+    'stanzas: loop { // for the prover
         match stanzas.next(alloc, &mut stanza.properties)? {
             Next::Stanza { line, last } => {
                 stanza.line = line;

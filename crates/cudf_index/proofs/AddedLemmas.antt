@@ -13,12 +13,12 @@ use Rattle.cudf_index.specs.Working.Extents.{count_over, is_same}
 use Rattle.cudf_index.specs.Working.FirstPlaces.{number_meets}
 use Rattle.cudf_index.specs.Working.Givers.{Adds, Counted, Gathers, Sorts, count_gathered, count_within, numbers_given, runs_differ}
 use Rattle.cudf_index.specs.Working.Places.{HoldsSame}
-use Rattle.cudf_index.specs.Working.Wanted.{passes}
+use Rattle.cudf_index.specs.Working.ProvisionTest.{passes}
 use Rattle.cudf_index.specs.declared.index.gathered_names.Provision.{Provision}
 use Rattle.cudf_index.specs.declared.index.counts.Gathering.{Gathering}
 use Rattle.cudf_index.specs.declared.index.counts.Givers.{Givers}
-use Rattle.cudf_index.specs.declared.index.counts.Unsorted.{Unsorted}
-use Rattle.cudf_index.specs.declared.index.named_trees.Wanted.TheVariants.{Meeting, Number}
+use Rattle.cudf_index.specs.declared.index.counts.PackageNumbers.{PackageNumbers}
+use Rattle.cudf_index.specs.declared.index.named_trees.ProvisionTest.TheVariants.{Meeting, Number}
 use Rattle.cudf_index.proofs.CountLemmas.{count-append, count-cons}
 use Rattle.cudf_index.proofs.GiverLemmas.{any_same, counts_more, firsts, lasts, one_counts, sole_fewer, soles}
 use Rattle.cudf_index.proofs.PairLemmas.{pairs_given}
@@ -67,13 +67,13 @@ module _ (run : List Provision) (ns : List ℕ) (gives : GivesEach run ns) where
   told : (bound : Option (Relop × ℕ)) → list_any (meets bound) ns ≡ list_any (passes (Number bound)) run
   told bound = any_same (meets bound) (numbers_given run) ns gives.same ∙ sym (any_number bound run)
 
-  added_count : (old new : Unsorted) → Adds ns old new → length old.only.items ≤ length old.least.items → (bound : Option (Relop × ℕ)) → count_gathered bound new ≡ count_gathered bound old + cond (list_any (passes (Number bound)) run) 1 0
+  added_count : (old new : PackageNumbers) → Adds ns old new → length old.only.items ≤ length old.least.items → (bound : Option (Relop × ℕ)) → count_gathered bound new ≡ count_gathered bound old + cond (list_any (passes (Number bound)) run) 1 0
   added_count old new adds few bound =
       (λ i. count_over bound (adds.least i) (adds.greatest i) (adds.each i) (adds.only i))
       ∙ counts_more bound old.least.items old.greatest.items old.each.items old.only.items (firsts ns) (lasts ns) ns (soles ns) few (sole_fewer ns)
       ∙ ap (λ n. count_gathered bound old + n) (one_counts bound ns gives.up ∙ ap {B = ℕ} (λ b. cond b 1 0) (told bound))
 
-  added_fewer : (old new : Unsorted) → Adds ns old new → length old.only.items ≤ length old.least.items → length new.only.items ≤ length new.least.items
+  added_fewer : (old new : PackageNumbers) → Adds ns old new → length old.only.items ≤ length old.least.items → length new.only.items ≤ length new.least.items
   added_fewer old new adds few = omega (arith, ap length adds.only, ap length adds.least, length-append old.only.items (soles ns), length-append old.least.items (firsts ns), sole_fewer ns)
 
   module _ (done : List (List Provision)) (old new : Gathering) (adds : Adds ns old.numbers new.numbers) (so_far : Gathers done old) where
@@ -99,7 +99,7 @@ module _ (run : List Provision) (ns : List ℕ) (gives : GivesEach run ns) where
       meeting = λ bound above.
           let all : cond (list_any (passes (Meeting bound)) run) 1 0 ≡ 1 = ap {B = ℕ} (λ b. cond b 1 0) (any_meets bound above run some) in
           omega (arith, ap (count_gathered bound) same, next, so_far.meeting bound above, more (list_any (passes (Meeting bound))), all);
-      pure_fewer = omega (arith, ap (λ (u : Unsorted). length u.only.items) same, ap (λ (u : Unsorted). length u.least.items) same, so_far.pure_fewer);
+      pure_fewer = omega (arith, ap (λ (u : PackageNumbers). length u.only.items) same, ap (λ (u : PackageNumbers). length u.least.items) same, so_far.pure_fewer);
     }
 
     -- which doesn't

@@ -19,10 +19,10 @@ use Rattle.cudf_index.specs.Satisfaction.{Placed, members, meets_alone, meets_cl
 use Rattle.cudf_index.specs.Working.Gathering.{given_by, given_of}
 use Rattle.cudf_index.specs.Working.Places.{has, passes_at, Adds, meets_atom_alone}
 use Rattle.cudf_index.specs.Working.Questions.{will_have, WillAdd, PassesOrAsks}
-use Rattle.cudf_index.specs.Working.Wanted.{passes, ends_in, with_new, with_passing, with_all}
+use Rattle.cudf_index.specs.Working.ProvisionTest.{passes, ends_in, with_new, with_passing, with_all}
 use Rattle.cudf_index.specs.declared.index.gathered_names.Provision.{Provision}
-use Rattle.cudf_index.specs.declared.index.named_trees.Wanted.{Wanted}
-use Rattle.cudf_index.specs.declared.index.named_trees.Wanted.TheVariants.{Meeting}
+use Rattle.cudf_index.specs.declared.index.named_trees.ProvisionTest.{ProvisionTest}
+use Rattle.cudf_index.specs.declared.index.named_trees.ProvisionTest.TheVariants.{Meeting}
 use Rattle.cudf_index.proofs.MemberLemmas.{members_kept, members_left_out}
 use Rattle.cudf_index.proofs.PlaceLemmas.{has_where}
 use Rattle.cudf_index.proofs.SatisfactionLemmas.{member_alone}
@@ -108,7 +108,7 @@ has_new n p places = by (ends_in n places) refl
     by true ends = there (n == p) refl ends
     by false ends = list_any-append (λ q. q == p) places (n ∷ []) ∙ ap (λ b. has places p || b) (sym (or_none (n == p)))
 
-pub wanted_adds : (w : Wanted) (f : List ℕ) (status : List Placed) (places : List ℕ) → Adds (λ q. list_any (passes w) (given_by f q)) status places (with_all w places (given_of f status))
+pub wanted_adds : (w : ProvisionTest) (f : List ℕ) (status : List Placed) (places : List ℕ) → Adds (λ q. list_any (passes w) (given_by f q)) status places (with_all w places (given_of f status))
 wanted_adds w f [] places p = or_none (has places p)
 wanted_adds w f (q ∷ qs) places p =
     ap (λ xs. has xs p) (fold-append (with_passing w) places (given_by f q) (given_of f qs))
@@ -133,7 +133,7 @@ pub meeting_at : (v : PlainVpkg) (p : ℕ) (status : List Placed) → passes_at 
 meeting_at v p status = any_agree (λ (q : Placed). (q.0 == p) && list_any (passes (Meeting v.bound)) (given_by v.name q)) (λ q. (q.0 == p) && meets_alone v q) (λ q. ap (λ b. (q.0 == p) && b) (meeting_tells v q)) status
 
 -- of a status as it is kept
-pub row_gives : (w : Wanted) (f : List ℕ) (status now : List Placed) (row : List Provision) (old new : List ℕ) → status ≡ now → row ≡ given_of f status → new ≡ with_all w old row → Adds (λ q. list_any (passes w) (given_by f q)) now old new
+pub row_gives : (w : ProvisionTest) (f : List ℕ) (status now : List Placed) (row : List Provision) (old new : List ℕ) → status ≡ now → row ≡ given_of f status → new ≡ with_all w old row → Adds (λ q. list_any (passes w) (given_by f q)) now old new
 row_gives w f status now row old new view kept put p =
     ap (λ xs. has xs p) (put ∙ ap (with_all w old) kept) ∙ wanted_adds w f status old p ∙ ap (λ s. has old p || passes_at (λ q. list_any (passes w) (given_by f q)) p s) view
 

@@ -19,10 +19,10 @@ use Rattle.cudf_index.specs.Working.FirstPlaces.{number_meets}
 use Rattle.cudf_index.specs.Working.Gathering.{given_by}
 use Rattle.cudf_index.specs.Working.Places.{has, passes_at, Adds, PassesOrAdds}
 use Rattle.cudf_index.specs.Working.Questions.{will_have, WillAdd, PassesOrAsks, passes_left, LeavesBound, covers, rest_of, gives_at, answers, Leaves, Answered}
-use Rattle.cudf_index.specs.Working.Wanted.{passes}
+use Rattle.cudf_index.specs.Working.ProvisionTest.{passes}
 use Rattle.cudf_index.specs.declared.index.gathered_names.Provision.{Provision}
-use Rattle.cudf_index.specs.declared.index.named_trees.Wanted.{Wanted}
-use Rattle.cudf_index.specs.declared.index.named_trees.Wanted.TheVariants.{Meeting, Number}
+use Rattle.cudf_index.specs.declared.index.named_trees.ProvisionTest.{ProvisionTest}
+use Rattle.cudf_index.specs.declared.index.named_trees.ProvisionTest.TheVariants.{Meeting, Number}
 use Rattle.cudf_index.proofs.ClauseLemmas.{or_none, and_or, any_agree, any_or, any_never, meeting_at}
 
 -- ---- questions beside places
@@ -130,7 +130,7 @@ module _ (name : List ℕ) (p : ℕ) (status : List Placed) where
 pub all_left : (asked : Option Vpkg) (v : Vpkg) → Leaves asked v (Some (Meeting v.bound))
 all_left asked v p status = ap (λ b. answers asked p status || b) (meeting_at (vpkg_view v) p status)
 
-pub named_left : (a v : Vpkg) (left : Option Wanted) → a.name.now ≡ v.name.now → LeavesBound a.bound v.bound left → Leaves (Some a) v left
+pub named_left : (a v : Vpkg) (left : Option ProvisionTest) → a.name.now ≡ v.name.now → LeavesBound a.bound v.bound left → Leaves (Some a) v left
 named_left a v left same bound p status =
     ap (λ b. b || gives_at (passes_left left) v.name.now p status) first
     ∙ sym (gives_either v.name.now p status (passes (Meeting a.bound)) (passes_left left))
@@ -168,7 +168,7 @@ module _ (old : List ℕ) (before : List Vpkg) (question : Vpkg) (status : List 
       same p = known_left (answers asked p status) (has places p) false (meets_it p) (so_far.known p)
           (ap (λ b. answers asked p status || b) (sym (gives_none question.name.now p status)) ∙ left p status)
 
-  pub more_there : (w : Wanted) (new kept : List ℕ) → Leaves asked question (Some w) → Adds (λ q. list_any (passes w) (given_by question.name.now q)) status places new → ((p : ℕ) → has kept p ≡ has new p)
+  pub more_there : (w : ProvisionTest) (new kept : List ℕ) → Leaves asked question (Some w) → Adds (λ q. list_any (passes w) (given_by question.name.now q)) status places new → ((p : ℕ) → has kept p ≡ has new p)
       → Answered old (before ++ question ∷ []) status (Some question) kept
   more_there w new kept left added same = record {
     known = λ p. ap (λ b. meets_it p || b) (now p) ∙ within (meets_it p) (has places p) ∙ sym (now p);

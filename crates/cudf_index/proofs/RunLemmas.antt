@@ -13,10 +13,10 @@ use Rattle.cudf_index.specs.Satisfaction.{Placed, members, meets_alone, numbers_
 use Rattle.cudf_index.specs.Working.Gathering.{BothAt, given_by, given_of, row_items}
 use Rattle.cudf_index.specs.Working.Givers as counting
 use Rattle.cudf_index.specs.Working.Givers.{Counted, CountsOf, continues, count_meeting, count_within, numbers_differ, runs, runs_differ, with_first}
-use Rattle.cudf_index.specs.Working.Wanted.{passes}
+use Rattle.cudf_index.specs.Working.ProvisionTest.{passes}
 use Rattle.cudf_index.specs.declared.index.gathered_names.Provision.{Provision}
 use Rattle.cudf_index.specs.declared.index.counts.Givers.{Givers}
-use Rattle.cudf_index.specs.declared.index.named_trees.Wanted.TheVariants.{Meeting, Number}
+use Rattle.cudf_index.specs.declared.index.named_trees.ProvisionTest.TheVariants.{Meeting, Number}
 use Rattle.cudf_index.proofs.ClauseLemmas.{any_never}
 use Rattle.cudf_index.proofs.CountLemmas.{count-cons}
 use Rattle.cudf_index.proofs.GatheringLemmas.{numbers_given}

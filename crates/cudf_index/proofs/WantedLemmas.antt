@@ -16,14 +16,14 @@ use Rattle.cudf_index.specs.Satisfaction.{Placed, members, meets_alone}
 use Rattle.cudf_index.specs.Working.Gathering.{provisions_of, own_entry, given_by, given_of, Completes}
 use Rattle.cudf_index.specs.Working.FirstPlaces.{number_meets}
 use Rattle.cudf_index.specs.Working.Trees.{provisions, AreHalves, Holds}
-use Rattle.cudf_index.specs.Working.Wanted.{passes, some_passes, ends_in, with_new, with_passing, with_all}
+use Rattle.cudf_index.specs.Working.ProvisionTest.{passes, some_passes, ends_in, with_new, with_passing, with_all}
 use Rattle.cudf_index.specs.declared.index.gathered_names.Entries.{Entries}
 use Rattle.cudf_index.specs.declared.index.gathered_names.Provision.{Provision}
 use Rattle.cudf_index.specs.declared.index.named_trees.Node.{Node}
 use Rattle.cudf_index.specs.declared.index.named_trees.Node.TheVariants.{Halves}
 use Rattle.cudf_index.specs.declared.index.named_trees.ProvisionTree.{ProvisionTree}
-use Rattle.cudf_index.specs.declared.index.named_trees.Wanted.{Wanted}
-use Rattle.cudf_index.specs.declared.index.named_trees.Wanted.TheVariants.{Meeting, Number, Version}
+use Rattle.cudf_index.specs.declared.index.named_trees.ProvisionTest.{ProvisionTest}
+use Rattle.cudf_index.specs.declared.index.named_trees.ProvisionTest.TheVariants.{Meeting, Number, Version}
 use Rattle.cudf_index.proofs.CountLemmas.{any-count}
 use Rattle.cudf_index.proofs.GatheringLemmas.{numbers_given}
 use Rattle.cudf_index.proofs.SearchLemmas.{found_place}
@@ -61,12 +61,12 @@ any_number bound (g ∷ gs) = ap (λ b. option_map_or (meets bound) g.number fal
     by (Some n) ns = refl
 
 -- what is kept of a row tells whether one of it is wanted
-pub any_tells : (w : Wanted) (row : List Provision) (e : Entries) → Completes row e → list_any (passes w) row ≡ some_passes w e
+pub any_tells : (w : ProvisionTest) (row : List Provision) (e : Entries) → Completes row e → list_any (passes w) row ≡ some_passes w e
 any_tells (Meeting bound) row e whole = counted bound row e whole
 any_tells (Number bound) row e whole = any_number bound row ∙ any-count (meets bound) (filter_map (λ g. g.number) row) ∙ ap (nat_lt 0) (sym (whole.numbers (meets bound)))
 any_tells Version row e whole = sym whole.is_package
 
-module _ (w : Wanted) where
+module _ (w : ProvisionTest) where
   pub none_wanted : (places : List ℕ) (row : List Provision) → list_any (passes w) row ≡ false → with_all w places row ≡ places
   none_wanted places [] none = refl
   none_wanted places (g ∷ gs) none =
@@ -128,7 +128,7 @@ package_places f p =
 abbrev EndsBelow : ℕ → List ℕ → Type 0
 EndsBelow low places = (place : ℕ) → low ≤ place → ends_in place places ≡ false
 
-module _ (w : Wanted) (f : List ℕ) (test : Placed → Bool) (tells : (p : Placed) → list_any (passes w) (given_by f p) ≡ test p) (holds : ℕ → Bool) where
+module _ (w : ProvisionTest) (f : List ℕ) (test : Placed → Bool) (tells : (p : Placed) → list_any (passes w) (given_by f p) ≡ test p) (holds : ℕ → Bool) where
   abbrev status : ℕ → List PlainPackage → List Placed
   status low packages = filter (λ (p : Placed). holds p.0) (enumerate_from low packages)
 
@@ -194,7 +194,7 @@ number_tells f bound p =
     ∙ ap (list_any (meets bound)) (sym (numbers_given f (p ∷ [])))
 
 module _ (holds : ℕ → Bool) (packages : List PlainPackage) (now : List Placed) (view : members holds packages ≡ now) (f : List ℕ) (row : List Provision) (kept : row ≡ given_of f (members holds packages)) (places : List ℕ) (cleared : places ≡ []) where
-  by_test : (w : Wanted) (test : Placed → Bool) → ((p : Placed) → list_any (passes w) (given_by f p) ≡ test p) → with_all w places row ≡ places_where test now
+  by_test : (w : ProvisionTest) (test : Placed → Bool) → ((p : Placed) → list_any (passes w) (given_by f p) ≡ test p) → with_all w places row ≡ places_where test now
   by_test w test tells =
       ap (λ ps. with_all w ps row) cleared ∙ ap (with_all w []) kept ∙ all_given w f test tells holds packages ∙ ap (places_where test) view
 

@@ -4,7 +4,7 @@ pub mod Ends
 pub mod Kept
 pub mod Gathering
 pub mod FirstPlaces
-pub mod Wanted
+pub mod ProvisionTest
 pub mod Places
 pub mod Questions
 pub mod Rows

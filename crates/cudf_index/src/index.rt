@@ -25,9 +25,9 @@ mod union;
 use crate::steps::Steps;
 use cudf_problem::{Problem, Status};
 use cudf_value::{Atom, Clause, Relop, Vpkg};
-use gathered_names::{Entries, GatheredNames, Met, entries_of};
+use gathered_names::{Entries, GatheredNames, MetCounts, entries_of};
 use member::{Member, Share, shares_of};
-use named_trees::{NamedTrees, Wanted};
+use named_trees::{NamedTrees, ProvisionTest};
 use std::alloc::{AllocError, Global};
 use std::marker::Model;
 
@@ -145,7 +145,7 @@ impl<'p, 't> Index<'p, 't> {
     {
         places.clear();
         self.given
-            .all(vpkg.name, Wanted::Meeting(vpkg.bound), places)
+            .all(vpkg.name, ProvisionTest::Meeting(vpkg.bound), places)
     }
 
     /// The same of those that have this name; features don't count (own).
@@ -157,7 +157,7 @@ impl<'p, 't> Index<'p, 't> {
         ensures { OnOk result (places.new.items ≡ places_where (is_named name.now) self.now) }
     {
         places.clear();
-        self.given.all(name, Wanted::Version, places)
+        self.given.all(name, ProvisionTest::Version, places)
     }
 
     /// The same of those that give a number of the name that meets the bound, as their version or by a versioned
@@ -175,7 +175,7 @@ impl<'p, 't> Index<'p, 't> {
         ensures { OnOk result (places.new.items ≡ places_where (gives_number name.now bound) self.now) }
     {
         places.clear();
-        self.given.all(name, Wanted::Number(bound), places)
+        self.given.all(name, ProvisionTest::Number(bound), places)
     }
 
     /// The least number that the status gives of the name, as a version or by a versioned
@@ -199,7 +199,7 @@ impl<'p, 't> Index<'p, 't> {
     pub fn least_at(&self, name: &str, place: u64) -> Option<u64>
         ensures { IsLeast (numbers_at name.now place self.now) result }
     {
-        let _ = &self.problem;
+        let _ = &self.problem; // for the prover
         if let Some(share) = self.share(place) {
             return share.least(name);
         }
@@ -296,7 +296,7 @@ impl<'p, 't> Index<'p, 't> {
         ensures grows { steps.old ≤ steps.new }
     {
         let all = entries.met(vpkg.bound, steps);
-        if all.exceeds(Met::none()) {
+        if all.exceeds(MetCounts::none()) {
             return all.exceeds(self.own(vpkg, place, steps));
         }
         false
@@ -358,7 +358,7 @@ impl<'p, 't> Index<'p, 't> {
     fn member(&self, place: u64) -> Option<Member<'p, 't>>
         ensures { option_map member_view result ≡ find (λ p. p.0 == place) self.now }
     {
-        let _ = &self.problem;
+        let _ = &self.problem; // for the prover
         if place == 0 {
             return None;
         }
@@ -375,7 +375,7 @@ impl<'p, 't> Index<'p, 't> {
     fn share(&self, place: u64) -> Option<&Share<'p, 't>>
         ensures { IfSome result (λ s. Some s.now ≡ find (λ p. p.0 == place) self.now) }
     {
-        let _ = &self.problem;
+        let _ = &self.problem; // for the prover
         let near = self.shares.partition_point(|share| share.place() < place);
         let share = self.shares.get(near)?;
         if share.place() != place {
@@ -386,7 +386,7 @@ impl<'p, 't> Index<'p, 't> {
 
     /// How many of the entries that meet the vpkg are those of the package at this place. Many
     /// provisions are searched by name, few are gone through.
-    fn own(&self, vpkg: &Vpkg<'_>, place: u64, steps: &mut Steps) -> Met
+    fn own(&self, vpkg: &Vpkg<'_>, place: u64, steps: &mut Steps) -> MetCounts
         ensures numbers { count_by (meets vpkg.now.bound) (numbers_of vpkg.now.name.now self.now)
             ≡ count_by (meets vpkg.now.bound) (numbers_of vpkg.now.name.now (without place self.now)) + result.numbers }
         ensures unversioned { count_by (λ given. bytes_eq given vpkg.now.name.now) (gives_all_versions self.now)
@@ -394,7 +394,7 @@ impl<'p, 't> Index<'p, 't> {
         ensures price { steps.new ≤ steps.old + own_cost self.now place }
         ensures grows { steps.old ≤ steps.new }
     {
-        let _ = &self.problem;
+        let _ = &self.problem; // for the prover
         if let Some(share) = self.share(place) {
             return share.met(vpkg, steps);
         }
@@ -402,12 +402,12 @@ impl<'p, 't> Index<'p, 't> {
             Some(member) => {
                 steps.grow_by(1);
                 steps.grow_by(member.package.provides.len());
-                Met {
+                MetCounts {
                     numbers: member.numbers_met(vpkg),
                     unversioned: member.unversioned(vpkg.name),
                 }
             }
-            None => Met::none(),
+            None => MetCounts::none(),
         }
     }
 }

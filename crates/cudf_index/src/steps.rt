@@ -3,14 +3,14 @@ ghost use Rattle.std.specs.Prelude.{◌≡◌, ℕ, ◌+◌};
 
 mod mark;
 
-use mark::Mark;
+use mark::GhostNumber;
 use std::marker::Model;
 
 /// A number of steps, calls, failures or bytes. Contracts see it as a natural number, which starts
 /// at 0, only grows and has no greatest value. It has no bytes, so no code can read it.
 #[derive(Drop)]
 pub struct Steps {
-    taken: Mark,
+    taken: GhostNumber,
 }
 
 impl Model for Steps {
@@ -24,7 +24,9 @@ impl Steps {
     pub fn new() -> Steps
         ensures { result ≡ 0 }
     {
-        Steps { taken: Mark::new() }
+        Steps {
+            taken: GhostNumber::new(),
+        }
     }
 
     /// One step more.

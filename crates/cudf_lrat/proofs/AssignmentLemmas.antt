@@ -6,12 +6,12 @@ use Rattle.std.proofs.lemmas.Bool.{cases_lt, cond-false, ne_eqb, cases_Bool, and
 use Rattle.std.proofs.lemmas.List.{get_or_past}
 use Rattle.cudf_lrat.specs.Steps.{no_values, PartialAssignment, conflict, is_false, is_same, status_of, status_by, not_unit, unit}
 use Rattle.cudf_lrat.specs.Working.Assignments.{assigned_by, unassigned, value_of}
-use Rattle.cudf_lrat.specs.declared.assignment.Assigned.{Assigned}
+use Rattle.cudf_lrat.specs.declared.assignment.AssignedValue.{AssignedValue}
 use Rattle.cudf_lrat.specs.declared.cnf.Literal.{Literal}
 
 -- ---- a new assignment
 
-fresh-at : (assignment : List Assigned) (step : ℕ) → All (λ m. m.step < step) assignment → 0 < step → (variable : ℕ) → value_of (get_or assignment variable unassigned) step ≡ None
+fresh-at : (assignment : List AssignedValue) (step : ℕ) → All (λ m. m.step < step) assignment → 0 < step → (variable : ℕ) → value_of (get_or assignment variable unassigned) step ≡ None
 fresh-at assignment step fresh some variable =
     elim (cases_lt variable (length assignment)) [
       | inl inside ↦ let older = fresh variable unassigned inside in cond-false (eqb (get_or assignment variable unassigned).step step) (Some (get_or assignment variable unassigned).value) None (ne_eqb (get_or assignment variable unassigned).step step (λ same. omega arith))
@@ -19,7 +19,7 @@ fresh-at assignment step fresh some variable =
     ]
 
 -- before the first mark of a step
-pub known_fresh : (assignment : List Assigned) (step : ℕ) → All (λ m. m.step < step) assignment → 0 < step → assigned_by assignment step ≡ no_values
+pub known_fresh : (assignment : List AssignedValue) (step : ℕ) → All (λ m. m.step < step) assignment → 0 < step → assigned_by assignment step ≡ no_values
 unfolding assigned_by
 known_fresh assignment step fresh some = λ i variable. fresh-at assignment step fresh some variable i
 

@@ -13,13 +13,13 @@ use Rattle.cudf_lrat.specs.Steps.{clause_numbered, is_unnamed, named_clause, ste
 use Rattle.cudf_lrat.specs.Working.Indices.{AreIndicesOf, IsAfter, IsIndexOf, indexed, number_at, steps_in}
 use Rattle.cudf_lrat.specs.declared.cnf.Literal.{Literal}
 use Rattle.cudf_lrat.specs.declared.reader.Signed.{Signed}
-use Rattle.cudf_lrat.specs.declared.steps.Steps.{Steps}
+use Rattle.cudf_lrat.specs.declared.steps.ProofSteps.{ProofSteps}
 
 not_given : (given number : ℕ) → given < number → (ltb 0 number && leb number given) ≡ false
 not_given given number above = and_right (ltb 0 number) (leb number given) (lt-leb number given above)
 
 -- a step's number
-pub index-step : (cnf : PlainCnf) (steps : Steps) (number position : ℕ) → IsAfter cnf steps → position < length steps.numbers.items → slice_index steps.numbers.items position ≡ number → IsIndexOf cnf steps number (length cnf.clauses + position)
+pub index-step : (cnf : PlainCnf) (steps : ProofSteps) (number position : ℕ) → IsAfter cnf steps → position < length steps.numbers.items → slice_index steps.numbers.items position ≡ number → IsIndexOf cnf steps number (length cnf.clauses + position)
 index-step cnf steps number position after inside is =
     let given : ℕ = length cnf.clauses in
     let above : given < number = let a = after.ascending.above position inside in omega arith in
@@ -34,19 +34,19 @@ index-step cnf steps number position after inside is =
       clause_is = get_or-append_right cnf.clauses (lists_in steps.clauses) given (given + position) [] refl (omega arith) ∙ ap (λ i. get_or (lists_in steps.clauses) i []) back ∙ sym (ap (λ o. unwrap_or o []) named);
     }
 
-unnamed-by : (cnf : PlainCnf) (steps : Steps) (number : ℕ) → (ltb 0 number && leb number (length cnf.clauses)) ≡ false → ((k : ℕ) → k < length steps.numbers.items → slice_index steps.numbers.items k ≢ number) → is_unnamed cnf.clauses (steps_in cnf steps) number ≡ true
+unnamed-by : (cnf : PlainCnf) (steps : ProofSteps) (number : ℕ) → (ltb 0 number && leb number (length cnf.clauses)) ≡ false → ((k : ℕ) → k < length steps.numbers.items → slice_index steps.numbers.items k ≢ number) → is_unnamed cnf.clauses (steps_in cnf steps) number ≡ true
 unnamed-by cnf steps number other none =
     ap is_none (cond-false _ _ _ other ∙ unnumbered (length cnf.clauses) steps.numbers.items (lists_in steps.clauses) (lists_in steps.used) number (length steps.numbers.items) none)
 
-pub unnamed-above : (cnf : PlainCnf) (steps : Steps) (number : ℕ) → length cnf.clauses < number → ((k : ℕ) → k < length steps.numbers.items → slice_index steps.numbers.items k ≢ number) → is_unnamed cnf.clauses (steps_in cnf steps) number ≡ true
+pub unnamed-above : (cnf : PlainCnf) (steps : ProofSteps) (number : ℕ) → length cnf.clauses < number → ((k : ℕ) → k < length steps.numbers.items → slice_index steps.numbers.items k ≢ number) → is_unnamed cnf.clauses (steps_in cnf steps) number ≡ true
 unnamed-above cnf steps number above none = unnamed-by cnf steps number (not_given (length cnf.clauses) number above) none
 
-pub unnamed-zero : (cnf : PlainCnf) (steps : Steps) (number : ℕ) → IsAfter cnf steps → number ≡ 0 → is_unnamed cnf.clauses (steps_in cnf steps) number ≡ true
+pub unnamed-zero : (cnf : PlainCnf) (steps : ProofSteps) (number : ℕ) → IsAfter cnf steps → number ≡ 0 → is_unnamed cnf.clauses (steps_in cnf steps) number ≡ true
 unnamed-zero cnf steps number after zero =
     unnamed-by cnf steps number (and_left (ltb 0 number) (leb number (length cnf.clauses)) (le-ltb 0 number (omega arith))) (λ k lt e. let above = after.ascending.above k lt in omega arith)
 
 -- one more number and its index
-pub indices-push : (cnf : PlainCnf) (steps : Steps) (numbers indices : List ℕ) (number index : ℕ) → AreIndicesOf cnf steps numbers indices → IsIndexOf cnf steps number index → AreIndicesOf cnf steps (numbers ++ number ∷ []) (indices ++ index ∷ [])
+pub indices-push : (cnf : PlainCnf) (steps : ProofSteps) (numbers indices : List ℕ) (number index : ℕ) → AreIndicesOf cnf steps numbers indices → IsIndexOf cnf steps number index → AreIndicesOf cnf steps (numbers ++ number ∷ []) (indices ++ index ∷ [])
 indices-push cnf steps numbers indices number index are is =
     let at : ℕ → ℕ = number_at (length cnf.clauses) steps.numbers.items in
     let named : ℕ → List Literal = named_clause cnf.clauses (steps_in cnf steps) in

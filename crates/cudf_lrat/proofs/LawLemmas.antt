@@ -9,11 +9,11 @@ use Rattle.std.proofs.lemmas.List.Sums.{passes_at_first}
 use Rattle.std.proofs.lemmas.List.Folds.{list_any-append, list_any_at}
 use Rattle.cudf_lrat.proofs.RangeLemmas.{in_range, range_within}
 use Rattle.cudf_text.specs.Lines.{lines}
-use Rattle.cudf_lrat.specs.Answers.{PlainAnswer, Taken, answer_after, checked, checked_from, core, done, fault, is_listed, needs, on, refuted, taken, unless_empty, with_step}
-use Rattle.cudf_lrat.specs.Lines.{Line, invalid, is_empty, proof_line, skipped, step}
+use Rattle.cudf_lrat.specs.Answers.{PlainAnswer, ProofState, answer_after, checked, checked_from, core, done, fault, is_listed, needs, on, refuted, taken, unless_empty, with_step}
+use Rattle.cudf_lrat.specs.Lines.{ProofLine, invalid, is_empty, proof_line, skipped, step}
 use Rattle.cudf_lrat.specs.Literals.{Assignment, IsCore, clause_at, is_satisfied_by, is_true_in}
-use Rattle.cudf_lrat.specs.Steps.{Derived, PartialAssignment, Status, assign, assign_unit, clause_numbered, conflict, denied, derived, greatest_number, is_beyond, is_false, is_false_at, is_same, is_unnamed, literal_of, named_clause, negated, no_values, not_unit, propagate, result_map, status_of, status_by, step_numbered, step_result, unit, used_by, values}
-use Rattle.cudf_lrat.specs.declared.checker.Kind.{Kind}
+use Rattle.cudf_lrat.specs.Steps.{Derived, PartialAssignment, ClauseStatus, assign, assign_unit, clause_numbered, conflict, denied, derived, greatest_number, is_beyond, is_false, is_false_at, is_same, is_unnamed, literal_of, named_clause, negated, no_values, not_unit, propagate, result_map, status_of, status_by, step_numbered, step_result, unit, used_by, values}
+use Rattle.cudf_lrat.specs.declared.checker.ProofFault.{ProofFault}
 use Rattle.cudf_lrat.specs.declared.cnf.Literal.{Literal}
 use Rattle.cudf_lrat.specs.declared.reader.Signed.{Signed}
 
@@ -130,7 +130,7 @@ none_left t (k ∷ ks) is h =
 
 -- ---- propagation
 
-mapped_ok : {X Y : Type 0} (f : X → Y) (r : Result X Kind) (y : Y) → result_map f r ≡ Ok y → (x : X) × (r ≡ Ok x) × (f x ≡ y)
+mapped_ok : {X Y : Type 0} (f : X → Y) (r : Result X ProofFault) (y : Y) → result_map f r ≡ Ok y → (x : X) × (r ≡ Ok x) × (f x ≡ y)
 mapped_ok f (Ok x) y is = (x, refl, cc)
 mapped_ok f (Err kind) y is = cc
 
@@ -139,7 +139,7 @@ used_all : (P : ℕ → Type 0) (clause : ℕ → List Literal) (known : Partial
 used_all P clause known [] used all is = cc
 used_all P clause known (hint ∷ hints) used all is = by (status_of known (clause hint)) (λ k us e. used_all P clause k hints us (All-tail P hint hints all) e) is
   where
-    by : (s : Status) → ((k : PartialAssignment) (us : List ℕ) → propagate clause k hints ≡ Ok us → All P us) → used_by hint s (propagate clause (assign_unit known s) hints) ≡ Ok used → All P used
+    by : (s : ClauseStatus) → ((k : PartialAssignment) (us : List ℕ) → propagate clause k hints ≡ Ok us → All P us) → used_by hint s (propagate clause (assign_unit known s) hints) ≡ Ok used → All P used
     by conflict rest e = let here : hint ∷ [] ≡ used = cc in subst (All P) here (All-cons P hint [] (All-head P hint hints all) (All-nil P))
     by (unit l) rest e =
         let later = mapped_ok (λ us. hint ∷ us) (propagate clause (assign known l) hints) used e in
@@ -154,7 +154,7 @@ propagate_sound t clause known (hint ∷ hints) used agrees is all = by (status_
     left : List Literal
     left = filter (λ l. not (is_false known l)) (clause hint)
 
-    by : (s : Status) → ((k : PartialAssignment) (us : List ℕ) → Agrees t k → propagate clause k hints ≡ Ok us → All (λ h. Sat t (clause h)) us → ⊥) → status_of known (clause hint) ≡ s → used_by hint s (propagate clause (assign_unit known s) hints) ≡ Ok used → ⊥
+    by : (s : ClauseStatus) → ((k : PartialAssignment) (us : List ℕ) → Agrees t k → propagate clause k hints ≡ Ok us → All (λ h. Sat t (clause h)) us → ⊥) → status_of known (clause hint) ≡ s → used_by hint s (propagate clause (assign_unit known s) hints) ≡ Ok used → ⊥
     by conflict rest found e =
         let here : used ≡ hint ∷ [] = cc in
         none_left t left found (left_holds t known (clause hint) agrees (All-head (λ h. Sat t (clause h)) hint [] (subst (All (λ h. Sat t (clause h))) here all)))
@@ -194,7 +194,7 @@ abbrev IsSound : List (List Literal) → List Derived → Type 0
 IsSound cnf [] = Unit {0}
 IsSound cnf (s ∷ earlier) = Follows cnf earlier s × IsSound cnf earlier
 
-ok_else : {X : Type 0} (b : Bool) (kind : Kind) (r : Result X Kind) (s : X) → (if b then Err kind else r) ≡ Ok s → (b ≡ false) × (r ≡ Ok s)
+ok_else : {X : Type 0} (b : Bool) (kind : ProofFault) (r : Result X ProofFault) (s : X) → (if b then Err kind else r) ≡ Ok s → (b ≡ false) × (r ≡ Ok s)
 ok_else true kind r s h = cc
 ok_else false kind r s h = (refl, h)
 
@@ -222,7 +222,7 @@ step_sound variables cnf steps number literals hints s is = λ t satisfied.
     satisfied h (sym (ap (is_listed h) used) ∙ all_listed made.0 k d lt) (named_clause cnf steps h) (some_from (clause_numbered cnf steps h) some) in
     subst (Sat t) (ap (λ (d : Derived). d.clause) made.2) (derived_holds t (named_clause cnf steps) clause (values hints) made.0 made.1 all)
 
-with_step_sound : (cnf : List (List Literal)) (steps more : List Derived) (r : Result Derived Kind) → IsSound cnf steps → ((s : Derived) → r ≡ Ok s → Follows cnf steps s)
+with_step_sound : (cnf : List (List Literal)) (steps more : List Derived) (r : Result Derived ProofFault) → IsSound cnf steps → ((s : Derived) → r ≡ Ok s → Follows cnf steps s)
     → ((with_step steps r ≡ on more) → IsSound cnf more) × ((with_step steps r ≡ done more) → (s : Derived) × (more ≡ s ∷ steps) × (s.clause ≡ []) × Follows cnf steps s)
 with_step_sound cnf steps more (Ok s) sound follows =
     elim (cases_Bool (is_empty s.clause)) [
@@ -237,7 +237,7 @@ with_step_sound cnf steps more (Ok s) sound follows =
     ]
 with_step_sound cnf steps more (Err kind) sound follows = ((λ is. cc), (λ is. cc))
 
-taken_sound : (variables : ℕ) (cnf : List (List Literal)) (steps more : List Derived) (line : Line) → IsSound cnf steps
+taken_sound : (variables : ℕ) (cnf : List (List Literal)) (steps more : List Derived) (line : ProofLine) → IsSound cnf steps
     → ((taken variables cnf steps line ≡ on more) → IsSound cnf more) × ((taken variables cnf steps line ≡ done more) → (s : Derived) × (more ≡ s ∷ steps) × (s.clause ≡ []) × Follows cnf steps s)
 taken_sound variables cnf steps more skipped sound = ((λ is. let l : steps ≡ more = cc in subst (IsSound cnf) l sound), (λ is. cc))
 taken_sound variables cnf steps more (step number literals hints) sound =
@@ -329,7 +329,7 @@ core_sound cnf steps s sound follows none =
 
 -- ---- the answer
 
-answer_sound : (cnf : List (List Literal)) (found : List ℕ) (number : ℕ) (t : Taken) (next : List Derived → PlainAnswer) → ((more : List Derived) → t ≡ on more → next more ≡ refuted found → IsCore cnf found)
+answer_sound : (cnf : List (List Literal)) (found : List ℕ) (number : ℕ) (t : ProofState) (next : List Derived → PlainAnswer) → ((more : List Derived) → t ≡ on more → next more ≡ refuted found → IsCore cnf found)
     → ((more : List Derived) → t ≡ done more → IsCore cnf (core cnf more)) → answer_after cnf number t next ≡ refuted found → IsCore cnf found
 answer_sound cnf found number (on steps) next more last is = more steps refl is
 answer_sound cnf found number (done steps) next more last is = let e : core cnf steps ≡ found = cc in subst (IsCore cnf) e (last steps refl)

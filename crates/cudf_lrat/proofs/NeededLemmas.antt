@@ -13,7 +13,7 @@ use Rattle.cudf_lrat.specs.Literals.{PlainCnf}
 use Rattle.cudf_lrat.specs.Steps.{greatest_number}
 use Rattle.cudf_lrat.specs.Working.Indices.{IsAfter, IsAscending, number_at, steps_below, steps_in}
 use Rattle.cudf_lrat.specs.Working.Needed.{AreNeeded}
-use Rattle.cudf_lrat.specs.declared.steps.Steps.{Steps}
+use Rattle.cudf_lrat.specs.declared.steps.ProofSteps.{ProofSteps}
 
 -- ---- numbers of indices
 
@@ -77,7 +77,7 @@ marked-step true given numbers j bound us marked old new up inside fits all was 
 marked-step false given numbers j bound us marked old new up inside fits all was is = is ∙ was
 
 -- what is marked after a step, and what the earlier ones need of it
-pub needed-back : (cnf : PlainCnf) (steps : Steps) (old new : List Bool) (marked all : List ℕ) (left k : ℕ) → IsAfter cnf steps → left ≡ k + 1 → left ≤ length steps.numbers.items → AreNeeded cnf steps old marked
+pub needed-back : (cnf : PlainCnf) (steps : ProofSteps) (old new : List Bool) (marked all : List ℕ) (left k : ℕ) → IsAfter cnf steps → left ≡ k + 1 → left ≤ length steps.numbers.items → AreNeeded cnf steps old marked
     → needs (steps_below (length cnf.clauses) steps.numbers.items (lists_in steps.clauses) (lists_in steps.used) left) marked ≡ all
     → ((j : ℕ) → get_or new j false ≡ (if get_or old (length cnf.clauses + k) false then list_any (λ i. eqb i j) (get_or (lists_in steps.used) k []) || get_or old j false else get_or old j false))
     → (more : List ℕ) × AreNeeded cnf steps new more × (needs (steps_below (length cnf.clauses) steps.numbers.items (lists_in steps.clauses) (lists_in steps.used) k) more ≡ all)
@@ -100,12 +100,12 @@ needed-back cnf steps old new marked all left k after is fits were need now =
 
 -- ---- the core
 
-last-of : (cnf : PlainCnf) (steps : Steps) (n : ℕ) → 0 < n → greatest_number cnf.clauses (steps_below (length cnf.clauses) steps.numbers.items (lists_in steps.clauses) (lists_in steps.used) n) ≡ slice_index steps.numbers.items (n - 1)
+last-of : (cnf : PlainCnf) (steps : ProofSteps) (n : ℕ) → 0 < n → greatest_number cnf.clauses (steps_below (length cnf.clauses) steps.numbers.items (lists_in steps.clauses) (lists_in steps.used) n) ≡ slice_index steps.numbers.items (n - 1)
 last-of cnf steps zero some = absurd (omega arith)
 last-of cnf steps (suc k) some = let back : k ≡ suc k - 1 = omega arith in ap (slice_index steps.numbers.items) back
 
 -- the last step is needed, and none else yet
-pub needed-last : (cnf : PlainCnf) (steps : Steps) (count last : ℕ) (needed : List Bool) → IsAfter cnf steps → 0 < length steps.numbers.items → count ≡ length cnf.clauses + length steps.numbers.items → last ≡ count - 1 → needed ≡ set (replicate count false) last true
+pub needed-last : (cnf : PlainCnf) (steps : ProofSteps) (count last : ℕ) (needed : List Bool) → IsAfter cnf steps → 0 < length steps.numbers.items → count ≡ length cnf.clauses + length steps.numbers.items → last ≡ count - 1 → needed ≡ set (replicate count false) last true
     → AreNeeded cnf steps needed (greatest_number cnf.clauses (steps_in cnf steps) ∷ [])
 needed-last cnf steps count last needed after some total is marked = λ k lt.
     let given : ℕ = length cnf.clauses in
@@ -124,7 +124,7 @@ needed-last cnf steps count last needed after some total is marked = λ k lt.
     ] in
     ap (λ xs. get_or xs k false) marked ∙ value ∙ sym test
 
-pub core-chosen : (cnf : PlainCnf) (steps : Steps) (needed front : List Bool) (found : List ℕ) → AreNeeded cnf steps needed (needs (steps_in cnf steps) (greatest_number cnf.clauses (steps_in cnf steps) ∷ [])) → front ≡ take (length cnf.clauses) needed → length cnf.clauses ≤ length needed → length front ≡ length cnf.clauses
+pub core-chosen : (cnf : PlainCnf) (steps : ProofSteps) (needed front : List Bool) (found : List ℕ) → AreNeeded cnf steps needed (needs (steps_in cnf steps) (greatest_number cnf.clauses (steps_in cnf steps) ∷ [])) → front ≡ take (length cnf.clauses) needed → length cnf.clauses ≤ length needed → length front ≡ length cnf.clauses
     → found ≡ filter (λ n. get_or front (n - 1) false) (range_with_len 1 (length front)) → found ≡ core cnf.clauses (steps_in cnf steps)
 unfolding core
 core-chosen cnf steps needed front found are is fits size chosen =

@@ -4,14 +4,14 @@ use Rattle.std.specs.List.{list_any}
 use Rattle.std.specs.Prelude.{All}
 use Rattle.std.proofs.lemmas.Bool.{not-true}
 use Rattle.std.proofs.lemmas.List.Elements.{All-head, All-tail}
-use Rattle.cudf_lrat.specs.Steps.{PartialAssignment, Status, assign_unit, conflict, not_unit, propagate, result_map, status_of, unit, used_by, Derived, denied, derived, greatest_number, is_beyond, is_unnamed, literal_of, named_clause, step_result, values}
-use Rattle.cudf_lrat.specs.declared.checker.Kind.{Kind}
+use Rattle.cudf_lrat.specs.Steps.{PartialAssignment, ClauseStatus, assign_unit, conflict, not_unit, propagate, result_map, status_of, unit, used_by, Derived, denied, derived, greatest_number, is_beyond, is_unnamed, literal_of, named_clause, step_result, values}
+use Rattle.cudf_lrat.specs.declared.checker.ProofFault.{ProofFault}
 use Rattle.cudf_lrat.specs.declared.cnf.Literal.{Literal}
 use Rattle.cudf_lrat.specs.declared.reader.Signed.{Signed}
 
 -- ---- propagation
 
-named_by : (at : ℕ → ℕ) (x : ℕ) (s : Status) (a b : Result (List ℕ) Kind) → a ≡ result_map (map at) b → used_by (at x) s a ≡ result_map (map at) (used_by x s b)
+named_by : (at : ℕ → ℕ) (x : ℕ) (s : ClauseStatus) (a b : Result (List ℕ) ProofFault) → a ≡ result_map (map at) b → used_by (at x) s a ≡ result_map (map at) (used_by x s b)
 named_by at x conflict a b same = refl
 named_by at x (unit literal) a (Ok used) same = ap (result_map (λ us. at x ∷ us)) same
 named_by at x (unit literal) a (Err kind) same = ap (result_map (λ us. at x ∷ us)) same
@@ -24,7 +24,7 @@ propagate-named f g at known (x ∷ xs) same =
     (λ i. used_by (at x) (status_of known (here i)) (propagate f (assign_unit known (status_of known (here i))) (map at xs)))
     ∙ named_by at x (status_of known (g x)) _ _ (propagate-named f g at (assign_unit known (status_of known (g x))) xs (All-tail (λ x. f (at x) ≡ g x) x xs same))
 
-pub result_map-map : {X Y Z : Type 0} (g : Y → Z) (f : X → Y) (r : Result X Kind) → result_map g (result_map f r) ≡ result_map (λ x. g (f x)) r
+pub result_map-map : {X Y Z : Type 0} (g : Y → Z) (f : X → Y) (r : Result X ProofFault) → result_map g (result_map f r) ≡ result_map (λ x. g (f x)) r
 result_map-map g f (Ok x) = refl
 result_map-map g f (Err kind) = refl
 

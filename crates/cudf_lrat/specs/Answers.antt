@@ -2,12 +2,12 @@
 use Rattle.std.specs.Prelude.{ℕ, ◌+◌, max, Bool, ◌==◌, List, [], ◌∷◌, ◌++◌, length, filter, position, Option, Some, None, Result, Ok, Err, if◌then◌else◌}
 use Rattle.std.specs.List.{list_any, range_with_len}
 use Rattle.cudf_text.specs.Lines.{lines}
-use Rattle.cudf_lrat.specs.Lines.{Line, skipped, step, invalid, is_empty, proof_line}
+use Rattle.cudf_lrat.specs.Lines.{ProofLine, skipped, step, invalid, is_empty, proof_line}
 use Rattle.cudf_lrat.specs.Steps.{Derived, greatest_number, step_result}
 use Rattle.cudf_lrat.specs.declared.checker.Answer.{Answer}
 use Rattle.cudf_lrat.specs.declared.checker.Answer.TheVariants.{Refuted, Faulty}
-use Rattle.cudf_lrat.specs.declared.checker.Kind.{Kind}
-use Rattle.cudf_lrat.specs.declared.checker.Kind.TheVariants.{NotAStep, EndsEarly}
+use Rattle.cudf_lrat.specs.declared.checker.ProofFault.{ProofFault}
+use Rattle.cudf_lrat.specs.declared.checker.ProofFault.TheVariants.{NotAStep, EndsEarly}
 use Rattle.cudf_lrat.specs.declared.cnf.Literal.{Literal}
 
 -- ---- the core
@@ -27,17 +27,17 @@ core cnf steps = filter (λ number. is_listed number (needs steps (greatest_numb
 -- ---- lines
 
 -- what a line does to the steps before it, the last one first
-pub data Taken : Type 0 where
-  on : List Derived → Taken
+pub data ProofState : Type 0 where
+  on : List Derived → ProofState
   -- the last step has no literals
-  done : List Derived → Taken
-  fault : Kind → Taken
+  done : List Derived → ProofState
+  fault : ProofFault → ProofState
 
-abbrev pub with_step : List Derived → Result Derived Kind → Taken
+abbrev pub with_step : List Derived → Result Derived ProofFault → ProofState
 with_step steps (Ok s) = if is_empty s.clause then done (s ∷ steps) else on (s ∷ steps)
 with_step steps (Err kind) = fault kind
 
-abbrev pub taken : ℕ → List (List Literal) → List Derived → Line → Taken
+abbrev pub taken : ℕ → List (List Literal) → List Derived → ProofLine → ProofState
 taken variables cnf steps skipped = on steps
 taken variables cnf steps (step number literals hints) = with_step steps (step_result variables cnf steps number literals hints)
 taken variables cnf steps invalid = fault NotAStep
@@ -48,9 +48,9 @@ pub data PlainAnswer : Type 0 where
   -- the core
   refuted : List ℕ → PlainAnswer
   -- a line from 1, and what is wrong there
-  faulty : ℕ → Kind → PlainAnswer
+  faulty : ℕ → ProofFault → PlainAnswer
 
-abbrev pub answer_after : List (List Literal) → ℕ → Taken → (List Derived → PlainAnswer) → PlainAnswer
+abbrev pub answer_after : List (List Literal) → ℕ → ProofState → (List Derived → PlainAnswer) → PlainAnswer
 answer_after cnf line (on steps) next = next steps
 answer_after cnf line (done steps) next = refuted (core cnf steps)
 answer_after cnf line (fault kind) next = faulty line kind

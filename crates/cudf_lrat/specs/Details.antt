@@ -4,11 +4,11 @@ use Rattle.std.specs.List.{list_all, list_any}
 use Rattle.std.specs.Str.{is_utf8}
 use Rattle.cudf_text.specs.Chars.{trim}
 use Rattle.cudf_text.specs.Lines.{lines}
-use Rattle.cudf_lrat.specs.Lines.{Line, skipped, cut_at_zeros, is_empty, proof_line, words_of}
-use Rattle.cudf_lrat.specs.declared.checker.Kind.{Kind}
-use Rattle.cudf_lrat.specs.declared.checker.Kind.TheVariants.{NotAStep, NumberNotNew}
-use Rattle.cudf_lrat.specs.declared.details.Detail.{Detail}
-use Rattle.cudf_lrat.specs.declared.details.Detail.TheVariants as detail
+use Rattle.cudf_lrat.specs.Lines.{ProofLine, skipped, cut_at_zeros, is_empty, proof_line, words_of}
+use Rattle.cudf_lrat.specs.declared.checker.ProofFault.{ProofFault}
+use Rattle.cudf_lrat.specs.declared.checker.ProofFault.TheVariants.{NotAStep, NumberNotNew}
+use Rattle.cudf_lrat.specs.declared.details.ProofDetail.{ProofDetail}
+use Rattle.cudf_lrat.specs.declared.details.ProofDetail.TheVariants as detail
 use Rattle.cudf_lrat.specs.declared.reader.Signed.{Signed}
 
 -- what is said, in plain texts
@@ -48,7 +48,7 @@ line_detail line =
 
 -- ---- a number that isn't new
 
-abbrev pub is_skipped : Line → Bool
+abbrev pub is_skipped : ProofLine → Bool
 is_skipped skipped = true
 is_skipped _ = false
 
@@ -63,12 +63,12 @@ count_detail clauses proof number = if is_first_step proof number then Some (cla
 -- ---- and of any fault
 
 -- of a CNF with so many clauses, beside the fault of this kind on the line of this number from 1
-abbrev pub fault_detail : ℕ → List ℕ → ℕ → Kind → Option PlainDetail
+abbrev pub fault_detail : ℕ → List ℕ → ℕ → ProofFault → Option PlainDetail
 fault_detail clauses proof number NotAStep = option_and_then line_detail (slice_get (lines proof) (number - 1))
 fault_detail clauses proof number NumberNotNew = count_detail clauses proof number
 fault_detail clauses proof number kind = None
 
-abbrev pub detail_view : Detail → PlainDetail
+abbrev pub detail_view : ProofDetail → PlainDetail
 detail_view detail.Binary = binary
 detail_view detail.NoHints = no_hints
 detail_view (detail.LineText text) = line_text text.now

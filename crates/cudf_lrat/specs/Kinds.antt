@@ -1,10 +1,10 @@
 -- The kinds of faults: their texts (own).
 use Rattle.std.specs.Prelude.{ℕ, List, codes}
-use Rattle.cudf_lrat.specs.declared.checker.Kind.{Kind}
-use Rattle.cudf_lrat.specs.declared.checker.Kind.TheVariants.{NotAStep, NumberNotNew, NoSuchVariable, RatStep, NoSuchClause, HintNotUnit, NoConflict, EndsEarly}
+use Rattle.cudf_lrat.specs.declared.checker.ProofFault.{ProofFault}
+use Rattle.cudf_lrat.specs.declared.checker.ProofFault.TheVariants.{NotAStep, NumberNotNew, NoSuchVariable, RatStep, NoSuchClause, HintNotUnit, NoConflict, EndsEarly}
 
 -- a kind's name and what is wrong
-abbrev pub kind_text : Kind → List ℕ
+abbrev pub kind_text : ProofFault → List ℕ
 kind_text NotAStep = codes "L1 not a step"
 kind_text NumberNotNew = codes "L2 number is not new"
 kind_text NoSuchVariable = codes "L3 no such variable"

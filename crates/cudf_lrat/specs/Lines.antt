@@ -38,33 +38,33 @@ cut_at_zeros words = option_map (slice_split (λ n. n.value == 0)) (signed_numbe
 
 -- ---- lines
 
-pub data Line : Type 0 where
+pub data ProofLine : Type 0 where
   -- a blank line, a comment, or a deletion
-  skipped : Line
+  skipped : ProofLine
   -- a number, literals, and hints
-  step : ℕ → List Signed → List Signed → Line
-  invalid : Line
+  step : ℕ → List Signed → List Signed → ProofLine
+  invalid : ProofLine
 
 -- literals, a zero, hints, and a zero at the end
-abbrev pub step_of : ℕ → Option (List (List Signed)) → Line
+abbrev pub step_of : ℕ → Option (List (List Signed)) → ProofLine
 step_of number (Some (literals ∷ hints ∷ [] ∷ [])) = step number literals hints
 step_of number _ = invalid
 
 -- numbers without a sign, and a zero at the end
-abbrev pub deletion_of : Option (List (List Signed)) → Line
+abbrev pub deletion_of : Option (List (List Signed)) → ProofLine
 deletion_of (Some (numbers ∷ [] ∷ [])) = if list_any (λ n. n.negative) numbers then invalid else skipped
 deletion_of _ = invalid
 
 -- a line's number, and the words after it
-abbrev pub numbered_line : Option ℕ → List (List ℕ) → Line
+abbrev pub numbered_line : Option ℕ → List (List ℕ) → ProofLine
 numbered_line None rest = invalid
 numbered_line (Some number) [] = invalid
 numbered_line (Some number) (word ∷ rest) = if bytes_eq word (codes "d") then deletion_of (cut_at_zeros rest) else step_of number (cut_at_zeros (word ∷ rest))
 
-abbrev pub line_of_words : List (List ℕ) → Line
+abbrev pub line_of_words : List (List ℕ) → ProofLine
 line_of_words [] = skipped
 line_of_words (word ∷ rest) = if bytes_eq word (codes "c") then skipped else numbered_line (number word) rest
 
 -- what the text of a line says
-unfoldable pub proof_line : List ℕ → Line
+unfoldable pub proof_line : List ℕ → ProofLine
 proof_line text = line_of_words (words_of text)

@@ -2,8 +2,8 @@
 use Rattle.std.specs.Prelude.{ℕ, Bool, false, not, ◌&&◌, ◌==◌, nat_lt, nat_le, List, [], ◌∷◌, length, map, filter, fold, Option, Some, None, is_none, unwrap_or, Result, Ok, Err, if◌then◌else◌}
 use Rattle.std.specs.List.{list_all, list_any}
 use Rattle.cudf_lrat.specs.Literals.{clause_at}
-use Rattle.cudf_lrat.specs.declared.checker.Kind.{Kind}
-use Rattle.cudf_lrat.specs.declared.checker.Kind.TheVariants.{NumberNotNew, NoSuchVariable, RatStep, NoSuchClause, HintNotUnit, NoConflict}
+use Rattle.cudf_lrat.specs.declared.checker.ProofFault.{ProofFault}
+use Rattle.cudf_lrat.specs.declared.checker.ProofFault.TheVariants.{NumberNotNew, NoSuchVariable, RatStep, NoSuchClause, HintNotUnit, NoConflict}
 use Rattle.cudf_lrat.specs.declared.cnf.Literal.{Literal}
 use Rattle.cudf_lrat.specs.declared.reader.Signed.{Signed}
 
@@ -41,39 +41,39 @@ abbrev pub is_same : Literal → Literal → Bool
 is_same a b = a.variable == b.variable && (if a.positive then b.positive else not b.positive)
 
 -- what a clause is under a partial assignment
-pub data Status : Type 0 where
+pub data ClauseStatus : Type 0 where
   -- all of its literals are false
-  conflict : Status
+  conflict : ClauseStatus
   -- all others are
-  unit : Literal → Status
+  unit : Literal → ClauseStatus
   -- two different ones or more aren't
-  not_unit : Status
+  not_unit : ClauseStatus
 
 -- by the literals that aren't false; a clause is a set, so one may occur more than once
-abbrev pub status_by : List Literal → Status
+abbrev pub status_by : List Literal → ClauseStatus
 status_by [] = conflict
 status_by (literal ∷ others) = if list_all (is_same literal) others then unit literal else not_unit
 
-abbrev pub status_of : PartialAssignment → List Literal → Status
+abbrev pub status_of : PartialAssignment → List Literal → ClauseStatus
 status_of known clause = status_by (filter (λ literal. not (is_false known literal)) clause)
 
 -- a unit is true
-abbrev pub assign_unit : PartialAssignment → Status → PartialAssignment
+abbrev pub assign_unit : PartialAssignment → ClauseStatus → PartialAssignment
 assign_unit known (unit literal) = assign known literal
 assign_unit known _ = known
 
-abbrev pub result_map : {X Y : Type 0} → (X → Y) → Result X Kind → Result Y Kind
+abbrev pub result_map : {X Y : Type 0} → (X → Y) → Result X ProofFault → Result Y ProofFault
 result_map f (Ok x) = Ok (f x)
 result_map f (Err kind) = Err kind
 
 -- the hints that are used, by the first one's clause and by what is used of the later ones
-abbrev pub used_by : ℕ → Status → Result (List ℕ) Kind → Result (List ℕ) Kind
+abbrev pub used_by : ℕ → ClauseStatus → Result (List ℕ) ProofFault → Result (List ℕ) ProofFault
 used_by hint conflict later = Ok (hint ∷ [])
 used_by hint (unit literal) later = result_map (λ used. hint ∷ used) later
 used_by hint not_unit later = Err HintNotUnit
 
 -- unit propagation by hints, in their order: those up to the first conflict are used
-abbrev pub propagate : (ℕ → List Literal) → PartialAssignment → List ℕ → Result (List ℕ) Kind
+abbrev pub propagate : (ℕ → List Literal) → PartialAssignment → List ℕ → Result (List ℕ) ProofFault
 propagate clause known [] = Err NoConflict
 propagate clause known (hint ∷ hints) = used_by hint (status_of known (clause hint)) (propagate clause (assign_unit known (status_of known (clause hint))) hints)
 
@@ -118,7 +118,7 @@ abbrev pub values : List Signed → List ℕ
 values numbers = map (λ n. n.value) numbers
 
 -- a step after others, the last of these first: the first of these faults, or what was derived
-unfoldable pub step_result : ℕ → List (List Literal) → List Derived → ℕ → List Signed → List Signed → Result Derived Kind
+unfoldable pub step_result : ℕ → List (List Literal) → List Derived → ℕ → List Signed → List Signed → Result Derived ProofFault
 step_result variables cnf steps number literals hints =
     if nat_le number (greatest_number cnf steps) then Err NumberNotNew
     else (if list_any (is_beyond variables) literals then Err NoSuchVariable

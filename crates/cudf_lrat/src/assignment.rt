@@ -6,13 +6,13 @@ ghost use Rattle.cudf_lrat.specs.Working.Indices.{IsAfter, indexed};
 ghost use Rattle.cudf_lrat.specs.Working.Assignments.{IsInside, assigned_by};
 ghost use Rattle.cudf_lrat.specs.Working.Views.{status_view};
 
-use crate::checker::Kind;
+use crate::checker::ProofFault;
 use crate::cnf::{Cnf, Literal};
-use crate::steps::Steps;
+use crate::steps::ProofSteps;
 
 /// The value of a variable, and the step that assigned it: to other steps the variable has no value.
 #[derive(Clone, Copy)]
-pub(crate) struct Assigned {
+pub(crate) struct AssignedValue {
     /// The step, from 1.
     pub step: u32,
     /// Whether the variable is true.
@@ -21,7 +21,7 @@ pub(crate) struct Assigned {
 
 /// What a clause is under an assignment.
 #[derive(Clone, Copy)]
-pub(crate) enum Status {
+pub(crate) enum ClauseStatus {
     /// All of its literals are false.
     Conflict,
     /// All others are.
@@ -33,7 +33,7 @@ pub(crate) enum Status {
 /// Whether the step made the literal false.
 #[inline(always)]
 #[tactic(auto, unfolding(crate::specs::Working::Assignments::assigned_by))]
-fn is_false(assignment: &[Assigned], step: u32, literal: Literal) -> bool
+fn is_false(assignment: &[AssignedValue], step: u32, literal: Literal) -> bool
     requires { literal.variable < length assignment.now }
     ensures { result ≡ is_false (assigned_by assignment.now step) literal }
 {
@@ -43,7 +43,7 @@ fn is_false(assignment: &[Assigned], step: u32, literal: Literal) -> bool
 
 /// How many literals at the front are false.
 #[inline(always)]
-fn false_front(assignment: &[Assigned], step: u32, clause: &[Literal]) -> usize
+fn false_front(assignment: &[AssignedValue], step: u32, clause: &[Literal]) -> usize
     requires { All (λ l. l.variable < length assignment.now) clause.now }
     ensures inside { result ≤ length clause.now }
     ensures value { result ≡ prefix_len (is_false (assigned_by assignment.now step)) clause.now }
@@ -58,7 +58,7 @@ fn false_front(assignment: &[Assigned], step: u32, clause: &[Literal]) -> usize
 
 /// Whether the literal is another than this one, and isn't false.
 #[inline(always)]
-fn is_other(assignment: &[Assigned], step: u32, own: Literal, literal: Literal) -> bool
+fn is_other(assignment: &[AssignedValue], step: u32, own: Literal, literal: Literal) -> bool
     requires { literal.variable < length assignment.now }
     ensures { result ≡ (not (is_false (assigned_by assignment.now step) literal) && not (is_same own literal)) }
 {
@@ -70,7 +70,7 @@ fn is_other(assignment: &[Assigned], step: u32, own: Literal, literal: Literal) 
 
 /// Whether each of the literals is this one, or false.
 #[inline(always)]
-fn is_alone(assignment: &[Assigned], step: u32, own: Literal, others: &[Literal]) -> bool
+fn is_alone(assignment: &[AssignedValue], step: u32, own: Literal, others: &[Literal]) -> bool
     requires { All (λ l. l.variable < length assignment.now) others.now }
     ensures { result ≡ list_all (is_same own) (filter (λ l. not (is_false (assigned_by assignment.now step) l)) others.now) }
 {
@@ -85,38 +85,38 @@ fn is_alone(assignment: &[Assigned], step: u32, own: Literal, others: &[Literal]
 /// What the clause is under what the step assigned.
 #[inline]
 #[tactic(auto, using(crate::proofs::AssignmentLemmas::status_conflict))]
-fn status_of(assignment: &[Assigned], step: u32, clause: &[Literal]) -> Status
+fn status_of(assignment: &[AssignedValue], step: u32, clause: &[Literal]) -> ClauseStatus
     requires { All (λ l. l.variable < length assignment.now) clause.now }
     ensures status { status_view result ≡ status_of (assigned_by assignment.now step) clause.now }
     ensures inside { IsInside (length assignment.now) (status_view result) }
 {
     let first = false_front(assignment, step, clause);
     if first == clause.len() {
-        return Status::Conflict;
+        return ClauseStatus::Conflict;
     }
     if is_alone(assignment, step, clause[first], &clause[first + 1..]) {
-        Status::Unit(clause[first])
+        ClauseStatus::Unit(clause[first])
     } else {
-        Status::NotUnit
+        ClauseStatus::NotUnit
     }
 }
 
 /// Makes the literal true.
 #[inline(always)]
 #[tactic(auto, unfolding(crate::specs::Working::Assignments::assigned_by))]
-fn assign(assignment: &mut [Assigned], step: u32, literal: Literal)
+fn assign(assignment: &mut [AssignedValue], step: u32, literal: Literal)
     requires { literal.variable < length assignment.old }
     ensures known { assigned_by assignment.new step ≡ assign (assigned_by assignment.old step) literal }
     ensures steps { All (λ m. m.step ≤ step) assignment.old → All (λ m. m.step ≤ step) assignment.new }
 {
-    assignment[literal.variable as usize] = Assigned {
+    assignment[literal.variable as usize] = AssignedValue {
         step,
         value: literal.positive,
     };
 }
 
 /// Makes each literal of the clause false, in their order.
-fn deny(assignment: &mut [Assigned], step: u32, clause: &[Literal])
+fn deny(assignment: &mut [AssignedValue], step: u32, clause: &[Literal])
     requires { All (λ l. l.variable < length assignment.old) clause.now }
     ensures known { assigned_by assignment.new step ≡ fold (λ known literal. assign known (negated literal)) (assigned_by assignment.old step) clause.now }
     ensures steps { All (λ m. m.step ≤ step) assignment.old → All (λ m. m.step ≤ step) assignment.new }
@@ -128,7 +128,7 @@ fn deny(assignment: &mut [Assigned], step: u32, clause: &[Literal])
 
 /// The clause of an index.
 #[inline(always)]
-fn clause_of<'c>(cnf: &'c Cnf, steps: &'c Steps, index: u32) -> &'c [Literal]
+fn clause_of<'c>(cnf: &'c Cnf, steps: &'c ProofSteps, index: u32) -> &'c [Literal]
     requires after { IsAfter cnf.now steps.now }
     requires known { index < length cnf.now.clauses + length steps.now.numbers.items }
     ensures clause { result.now ≡ indexed cnf.now steps.now index }
@@ -145,11 +145,11 @@ fn clause_of<'c>(cnf: &'c Cnf, steps: &'c Steps, index: u32) -> &'c [Literal]
 #[inline(always)]
 fn propagate_one(
     cnf: &Cnf,
-    steps: &Steps,
-    assignment: &mut [Assigned],
+    steps: &ProofSteps,
+    assignment: &mut [AssignedValue],
     step: u32,
     index: u32,
-) -> Status
+) -> ClauseStatus
     requires after { IsAfter cnf.now steps.now }
     requires known { index < length cnf.now.clauses + length steps.now.numbers.items }
     requires sized { cnf.now.variables < length assignment.old }
@@ -158,7 +158,7 @@ fn propagate_one(
     ensures steps { All (λ m. m.step ≤ step) assignment.old → All (λ m. m.step ≤ step) assignment.new }
 {
     let status = status_of(assignment, step, clause_of(cnf, steps, index));
-    if let Status::Unit(literal) = status {
+    if let ClauseStatus::Unit(literal) = status {
         assign(assignment, step, literal);
     }
     status
@@ -167,11 +167,11 @@ fn propagate_one(
 /// Propagates the clauses of the indices, in their order: counts those up to the first conflict.
 fn propagate(
     cnf: &Cnf,
-    steps: &Steps,
-    assignment: &mut [Assigned],
+    steps: &ProofSteps,
+    assignment: &mut [AssignedValue],
     step: u32,
     indices: &[u32],
-) -> Result<usize, Kind>
+) -> Result<usize, ProofFault>
     requires after { IsAfter cnf.now steps.now }
     requires known { All (λ index. index < length cnf.now.clauses + length steps.now.numbers.items) indices.now }
     requires sized { cnf.now.variables < length assignment.old }
@@ -181,23 +181,23 @@ fn propagate(
 {
     for (position, index) in indices.iter().enumerate() {
         match propagate_one(cnf, steps, assignment, step, *index) {
-            Status::Conflict => return Ok(position + 1),
-            Status::Unit(_) => {}
-            Status::NotUnit => return Err(Kind::HintNotUnit),
+            ClauseStatus::Conflict => return Ok(position + 1),
+            ClauseStatus::Unit(_) => {}
+            ClauseStatus::NotUnit => return Err(ProofFault::HintNotUnit),
         }
     }
-    Err(Kind::NoConflict)
+    Err(ProofFault::NoConflict)
 }
 
 /// Reverse unit propagation: makes all literals of the clause false, and propagates the clauses of the indices.
 pub(crate) fn propagate_denied(
     cnf: &Cnf,
-    steps: &Steps,
-    assignment: &mut [Assigned],
+    steps: &ProofSteps,
+    assignment: &mut [AssignedValue],
     step: u32,
     clause: &[Literal],
     indices: &[u32],
-) -> Result<usize, Kind>
+) -> Result<usize, ProofFault>
     requires after { IsAfter cnf.now steps.now }
     requires known { All (λ index. index < length cnf.now.clauses + length steps.now.numbers.items) indices.now }
     requires sized { cnf.now.variables < length assignment.old }

@@ -9,10 +9,10 @@ ghost use Rattle.cudf_lrat.specs.Steps.{denied, derived, greatest_number, is_bey
 ghost use Rattle.cudf_lrat.specs.Working.Indices.{AreIndicesOf, IsAfter, indexed, number_at, steps_in};
 ghost use Rattle.cudf_lrat.specs.Working.Views.{taken_view};
 
-use crate::assignment::{Assigned, propagate_denied};
+use crate::assignment::{AssignedValue, propagate_denied};
 use crate::cnf::{Cnf, Literal};
-use crate::reader::{Line, Signed, first_line, has_negative, read_line};
-use crate::steps::{Steps, core_of};
+use crate::reader::{ProofLine, Signed, first_line, has_negative, read_line};
+use crate::steps::{ProofSteps, core_of};
 use std::alloc::{AllocError, Global};
 
 /// What a proof shows of some clauses.
@@ -22,12 +22,12 @@ pub enum Answer {
     /// proof's step without literals needs.
     Refuted(Vec<u32>),
     /// Nothing: its first faulty line, from 1, and what is wrong there.
-    Faulty { line: u64, kind: Kind },
+    Faulty { line: u64, kind: ProofFault },
 }
 
 /// What is wrong with a line of a proof (own), in the order in which faults of one line are reported.
 #[derive(Clone, Copy)]
-pub enum Kind {
+pub enum ProofFault {
     /// L1: it is no step, deletion, comment or blank line.
     NotAStep,
     /// L2: its number is not above all before it.
@@ -46,20 +46,20 @@ pub enum Kind {
     EndsEarly,
 }
 
-impl Kind {
+impl ProofFault {
     /// The kind's name, one space, and what is wrong, as in `L8 proof ends early`.
     pub fn text(self) -> &'static str
         ensures { result.now ≡ kind_text self }
     {
         match self {
-            Kind::NotAStep => "L1 not a step",
-            Kind::NumberNotNew => "L2 number is not new",
-            Kind::NoSuchVariable => "L3 no such variable",
-            Kind::RatStep => "L4 RAT is not accepted",
-            Kind::NoSuchClause => "L5 no such clause",
-            Kind::HintNotUnit => "L6 hint is not unit",
-            Kind::NoConflict => "L7 hints without conflict",
-            Kind::EndsEarly => "L8 proof ends early",
+            ProofFault::NotAStep => "L1 not a step",
+            ProofFault::NumberNotNew => "L2 number is not new",
+            ProofFault::NoSuchVariable => "L3 no such variable",
+            ProofFault::RatStep => "L4 RAT is not accepted",
+            ProofFault::NoSuchClause => "L5 no such clause",
+            ProofFault::HintNotUnit => "L6 hint is not unit",
+            ProofFault::NoConflict => "L7 hints without conflict",
+            ProofFault::EndsEarly => "L8 proof ends early",
         }
     }
 }
@@ -116,38 +116,38 @@ fn check_lines(alloc: Global, cnf: &Cnf, proof: &[u8]) -> Result<Answer, AllocEr
     while let Some((text, after)) = first_line(rest) {
         line += 1;
         match checker.take(cnf, text)? {
-            Taken::On => rest = after,
-            Taken::Refuted => {
+            ProofState::On => rest = after,
+            ProofState::Refuted => {
                 let core = core_of(alloc, cnf, &checker.steps)?;
                 return Ok(Answer::Refuted(core));
             }
-            Taken::Fault(kind) => return Ok(Answer::Faulty { line, kind }),
+            ProofState::Fault(kind) => return Ok(Answer::Faulty { line, kind }),
         }
     }
     Ok(Answer::Faulty {
         line: line.max(1),
-        kind: Kind::EndsEarly,
+        kind: ProofFault::EndsEarly,
     })
 }
 
 /// What a line did.
 #[derive(Clone, Copy)]
-pub(crate) enum Taken {
+pub(crate) enum ProofState {
     /// The proof goes on.
     On,
     /// The last step has no literals.
     Refuted,
     /// The line is faulty.
-    Fault(Kind),
+    Fault(ProofFault),
 }
 
 /// What is known after some lines of a proof.
 #[derive(Drop)]
 pub(crate) struct Checker {
     /// The steps so far.
-    pub steps: Steps,
+    pub steps: ProofSteps,
     /// By its number, what was assigned to each variable.
-    pub assignment: Vec<Assigned>,
+    pub assignment: Vec<AssignedValue>,
     /// The last step that assigned values.
     pub last: u32,
     // Of the last line that was read:
@@ -183,7 +183,7 @@ fn read_clause(
 /// Finds the indices of the hints' clauses, where each names one.
 fn find_all(
     cnf: &Cnf,
-    steps: &Steps,
+    steps: &ProofSteps,
     hints: &[Signed],
     indices: &mut Vec<u32>,
 ) -> Result<bool, AllocError>
@@ -209,13 +209,13 @@ impl Checker {
         ensures ready { IfOk result (IsReady cnf.now) }
         ensures steps { IfOk result (λ checker. steps_in cnf.now checker.steps ≡ []) }
     {
-        let unassigned = Assigned {
+        let unassigned = AssignedValue {
             step: 0,
             value: false,
         };
         let assignment = vec![in alloc; unassigned; cnf.variables() as usize + 1]?;
         Ok(Checker {
-            steps: Steps::new(alloc),
+            steps: ProofSteps::new(alloc),
             assignment,
             last: 0,
             literals: Vec::new(alloc),
@@ -226,46 +226,46 @@ impl Checker {
     }
 
     /// Takes the next line.
-    pub(crate) fn take(&mut self, cnf: &Cnf, text: &[u8]) -> Result<Taken, AllocError>
+    pub(crate) fn take(&mut self, cnf: &Cnf, text: &[u8]) -> Result<ProofState, AllocError>
         requires { IsReady cnf.now self.old }
         ensures taken { IfOk result (λ t. taken_view t (steps_in cnf.now self.new.steps)
             ≡ taken cnf.now.variables cnf.now.clauses (steps_in cnf.now self.old.steps) (proof_line text.now)) }
         ensures ready { OnOk result (IsReady cnf.now self.new) }
     {
         match read_line(text, &mut self.literals, &mut self.hints)? {
-            Line::Skipped => Ok(Taken::On),
-            Line::Step(number) => self.take_step(cnf, number),
-            Line::Invalid => Ok(Taken::Fault(Kind::NotAStep)),
+            ProofLine::Skipped => Ok(ProofState::On),
+            ProofLine::Step(number) => self.take_step(cnf, number),
+            ProofLine::Invalid => Ok(ProofState::Fault(ProofFault::NotAStep)),
         }
     }
 
     /// Takes the step whose literals and hints were read.
     #[tactic(auto, unfolding(crate::specs::Steps::step_result))]
-    fn take_step(&mut self, cnf: &Cnf, number: u64) -> Result<Taken, AllocError>
+    fn take_step(&mut self, cnf: &Cnf, number: u64) -> Result<ProofState, AllocError>
         requires { IsReady cnf.now self.old }
         ensures taken { IfOk result (λ t. taken_view t (steps_in cnf.now self.new.steps)
             ≡ with_step (steps_in cnf.now self.old.steps) (step_result cnf.now.variables cnf.now.clauses (steps_in cnf.now self.old.steps) number self.old.literals.items self.old.hints.items)) }
         ensures ready { OnOk result (IsReady cnf.now self.new) }
     {
         if number <= self.steps.greatest_number(cnf) {
-            return Ok(Taken::Fault(Kind::NumberNotNew));
+            return Ok(ProofState::Fault(ProofFault::NumberNotNew));
         }
         let within = read_clause(&self.literals, cnf.variables(), &mut self.clause)?;
         if !within {
-            return Ok(Taken::Fault(Kind::NoSuchVariable));
+            return Ok(ProofState::Fault(ProofFault::NoSuchVariable));
         }
         if has_negative(&self.hints) {
-            return Ok(Taken::Fault(Kind::RatStep));
+            return Ok(ProofState::Fault(ProofFault::RatStep));
         }
         let named = find_all(cnf, &self.steps, &self.hints, &mut self.indices)?;
         if !named {
-            return Ok(Taken::Fault(Kind::NoSuchClause));
+            return Ok(ProofState::Fault(ProofFault::NoSuchClause));
         }
         self.derive(cnf, number)
     }
 
     /// Adds the step whose clause and indices were read, where propagation finds a conflict.
-    fn derive(&mut self, cnf: &Cnf, number: u64) -> Result<Taken, AllocError>
+    fn derive(&mut self, cnf: &Cnf, number: u64) -> Result<ProofState, AllocError>
         requires ready { IsReady cnf.now self.old }
         requires new { greatest_number cnf.now.clauses (steps_in cnf.now self.old.steps) < number }
         requires known { All (λ index. index < length cnf.now.clauses + length self.old.steps.numbers.items) self.old.indices.items }
@@ -291,12 +291,12 @@ impl Checker {
                 self.steps
                     .push(cnf, number, &self.clause, &self.indices[..used])?;
                 if self.clause.is_empty() {
-                    Ok(Taken::Refuted)
+                    Ok(ProofState::Refuted)
                 } else {
-                    Ok(Taken::On)
+                    Ok(ProofState::On)
                 }
             }
-            Err(kind) => Ok(Taken::Fault(kind)),
+            Err(kind) => Ok(ProofState::Fault(kind)),
         }
     }
 }

@@ -5,16 +5,16 @@ ghost use Rattle.cudf_text.specs.Lines.{lines};
 ghost use Rattle.cudf_lrat.specs.Details.{count_detail, detail_view, fault_detail, is_binary, is_binary_byte, is_clause, is_first_step, is_skipped, line_detail, shown_detail};
 ghost use Rattle.cudf_lrat.specs.Lines.{cut_at_zeros, proof_line, words_of};
 
-use crate::checker::Kind;
+use crate::checker::ProofFault;
 use crate::cnf::Cnf;
-use crate::reader::{Line, Signed, first_line, has_ended, read_line, read_numbers};
+use crate::reader::{ProofLine, Signed, first_line, has_ended, read_line, read_numbers};
 use cudf_text::trim;
 use std::alloc::{AllocError, Global};
 use std::str;
 
 /// What a proof says beside its first fault (own).
 #[derive(Clone, Copy, Debug)]
-pub enum Detail<'p> {
+pub enum ProofDetail<'p> {
     /// Of L1: the line isn't UTF-8, or has a byte below 32 that is neither a tab nor a CR. So are binary proofs.
     Binary,
     /// Of L1: the line is literals, or none, and a zero. So are proofs in DRAT's text form.
@@ -77,25 +77,25 @@ fn is_clause(alloc: Global, line: &[u8]) -> Result<bool, AllocError>
 }
 
 /// The text, unless it is empty.
-fn shown(text: &str) -> Option<Detail<'_>>
+fn shown(text: &str) -> Option<ProofDetail<'_>>
     ensures { option_map detail_view result ≡ shown_detail text.now }
 {
     if text.is_empty() {
         None
     } else {
-        Some(Detail::LineText { text })
+        Some(ProofDetail::LineText { text })
     }
 }
 
 /// What a line says that is no step.
-fn line_detail<'p>(alloc: Global, line: &'p [u8]) -> Result<Option<Detail<'p>>, AllocError>
+fn line_detail<'p>(alloc: Global, line: &'p [u8]) -> Result<Option<ProofDetail<'p>>, AllocError>
     ensures { IfOk result (λ d. option_map detail_view d ≡ line_detail line.now) }
 {
     let Some(text) = text_of(line) else {
-        return Ok(Some(Detail::Binary));
+        return Ok(Some(ProofDetail::Binary));
     };
     if is_clause(alloc, line)? {
-        return Ok(Some(Detail::NoHints));
+        return Ok(Some(ProofDetail::NoHints));
     }
     Ok(shown(trim(text)))
 }
@@ -109,8 +109,8 @@ fn is_skipped(
     ensures { IfOk result (λ is. is ≡ is_skipped (proof_line line.now)) }
 {
     match read_line(line, literals, hints)? {
-        Line::Skipped => Ok(true),
-        Line::Step(_) | Line::Invalid => Ok(false),
+        ProofLine::Skipped => Ok(true),
+        ProofLine::Step(_) | ProofLine::Invalid => Ok(false),
     }
 }
 
@@ -141,12 +141,12 @@ fn count_detail<'p>(
     cnf: &Cnf,
     proof: &[u8],
     number: u64,
-) -> Result<Option<Detail<'p>>, AllocError>
+) -> Result<Option<ProofDetail<'p>>, AllocError>
     ensures { IfOk result (λ d. option_map detail_view d ≡ count_detail (length cnf.now.clauses) proof.now number) }
 {
     if is_first_step(alloc, proof, number)? {
         let clauses = cnf.len();
-        Ok(Some(Detail::ClauseCount { clauses }))
+        Ok(Some(ProofDetail::ClauseCount { clauses }))
     } else {
         Ok(None)
     }
@@ -165,21 +165,21 @@ pub fn fault_detail<'p>(
     cnf: &Cnf,
     proof: &'p [u8],
     number: u64,
-    kind: Kind,
-) -> Result<Option<Detail<'p>>, AllocError>
+    kind: ProofFault,
+) -> Result<Option<ProofDetail<'p>>, AllocError>
     ensures { IfOk result (λ d. option_map detail_view d ≡ fault_detail (length cnf.now.clauses) proof.now number kind) }
 {
     match kind {
-        Kind::NotAStep => match line_at(proof, number) {
+        ProofFault::NotAStep => match line_at(proof, number) {
             Some(line) => line_detail(alloc, line),
             None => Ok(None),
         },
-        Kind::NumberNotNew => count_detail(alloc, cnf, proof, number),
-        Kind::NoSuchVariable
-        | Kind::RatStep
-        | Kind::NoSuchClause
-        | Kind::HintNotUnit
-        | Kind::NoConflict
-        | Kind::EndsEarly => Ok(None),
+        ProofFault::NumberNotNew => count_detail(alloc, cnf, proof, number),
+        ProofFault::NoSuchVariable
+        | ProofFault::RatStep
+        | ProofFault::NoSuchClause
+        | ProofFault::HintNotUnit
+        | ProofFault::NoConflict
+        | ProofFault::EndsEarly => Ok(None),
     }
 }

@@ -31,9 +31,9 @@ mod details;
 mod reader;
 mod steps;
 
-pub use checker::{Answer, Kind, check};
+pub use checker::{Answer, ProofFault, check};
 pub use cnf::{Cnf, Lists, Literal};
-pub use details::{Detail, fault_detail};
+pub use details::{ProofDetail, fault_detail};
 
 /// Laws of the definitions that the contracts of this crate cite. The functions do nothing: each
 /// contract is a law, proved for every argument.

@@ -21,7 +21,7 @@ pub(crate) struct Signed {
 
 /// What a line says.
 #[derive(Clone, Copy)]
-pub(crate) enum Line {
+pub(crate) enum ProofLine {
     /// Nothing: it is blank, a comment, or a deletion.
     Skipped,
     /// A step of this number, whose literals and hints were read into vectors.
@@ -236,20 +236,20 @@ fn read_step(
     text: &[u8],
     literals: &mut Vec<Signed>,
     hints: &mut Vec<Signed>,
-) -> Result<Line, AllocError>
+) -> Result<ProofLine, AllocError>
     ensures { IfOk result (λ line.
         line_view line literals.new.items hints.new.items ≡ step_of number (cut_at_zeros (words_of text.now))) }
 {
     let Some(rest) = read_numbers(text, literals)? else {
-        return Ok(Line::Invalid);
+        return Ok(ProofLine::Invalid);
     };
     let Some(rest) = read_numbers(rest, hints)? else {
-        return Ok(Line::Invalid);
+        return Ok(ProofLine::Invalid);
     };
     if has_ended(rest) {
-        Ok(Line::Step(number))
+        Ok(ProofLine::Step(number))
     } else {
-        Ok(Line::Invalid)
+        Ok(ProofLine::Invalid)
     }
 }
 
@@ -259,19 +259,19 @@ fn read_numbered(
     text: &[u8],
     literals: &mut Vec<Signed>,
     hints: &mut Vec<Signed>,
-) -> Result<Line, AllocError>
+) -> Result<ProofLine, AllocError>
     ensures { IfOk result (λ line. line_view line literals.new.items hints.new.items ≡ numbered_line (Some number) (words_of text.now)) }
 {
     let Some((word, rest)) = next_word(text) else {
-        return Ok(Line::Invalid);
+        return Ok(ProofLine::Invalid);
     };
     if word != b"d".as_slice() {
         return read_step(number, text, literals, hints);
     }
     if is_deletion(rest, hints)? {
-        Ok(Line::Skipped)
+        Ok(ProofLine::Skipped)
     } else {
-        Ok(Line::Invalid)
+        Ok(ProofLine::Invalid)
     }
 }
 
@@ -281,17 +281,17 @@ pub(crate) fn read_line(
     text: &[u8],
     literals: &mut Vec<Signed>,
     hints: &mut Vec<Signed>,
-) -> Result<Line, AllocError>
+) -> Result<ProofLine, AllocError>
     ensures { IfOk result (λ line. line_view line literals.new.items hints.new.items ≡ proof_line text.now) }
 {
     let Some((word, rest)) = next_word(text) else {
-        return Ok(Line::Skipped);
+        return Ok(ProofLine::Skipped);
     };
     if word == b"c".as_slice() {
-        return Ok(Line::Skipped);
+        return Ok(ProofLine::Skipped);
     }
     let Some(number) = read_number(word) else {
-        return Ok(Line::Invalid);
+        return Ok(ProofLine::Invalid);
     };
     read_numbered(number, rest, literals, hints)
 }

@@ -12,7 +12,7 @@ use std::alloc::{AllocError, Global};
 
 /// Steps, in their order.
 #[derive(Drop)]
-pub(crate) struct Steps {
+pub(crate) struct ProofSteps {
     /// Their numbers, which ascend.
     pub numbers: Vec<u64>,
     /// Their clauses.
@@ -53,14 +53,14 @@ fn guess(numbers: &[u64], number: u64) -> Option<usize>
     }
 }
 
-impl Steps {
+impl ProofSteps {
     /// No steps. Takes no memory.
     pub(crate) fn new(alloc: Global) -> Self
         ensures numbers { result.numbers.items ≡ [] }
         ensures clauses { lists_in result.clauses ≡ [] }
         ensures used { lists_in result.used ≡ [] }
     {
-        Steps {
+        ProofSteps {
             numbers: Vec::new(alloc),
             clauses: Lists::new(alloc),
             used: Lists::new(alloc),
@@ -133,7 +133,7 @@ fn need_all(needed: &mut [bool], indices: &[u32])
 }
 
 /// Marks what a step used as needed, where the step is.
-fn need_step(cnf: &Cnf, steps: &Steps, needed: &mut [bool], position: usize)
+fn need_step(cnf: &Cnf, steps: &ProofSteps, needed: &mut [bool], position: usize)
     requires after { IsAfter cnf.now steps.now }
     requires inside { position < length steps.now.numbers.items }
     requires all { length needed.old ≡ length cnf.now.clauses + length steps.now.numbers.items }
@@ -148,7 +148,7 @@ fn need_step(cnf: &Cnf, steps: &Steps, needed: &mut [bool], position: usize)
 }
 
 /// Marks the last step as needed, and from it back what each needed one used.
-fn need_back(cnf: &Cnf, steps: &Steps, needed: &mut [bool])
+fn need_back(cnf: &Cnf, steps: &ProofSteps, needed: &mut [bool])
     requires after { IsAfter cnf.now steps.now }
     requires some { 0 < length steps.now.numbers.items }
     requires none { needed.old ≡ replicate (length cnf.now.clauses + length steps.now.numbers.items) false }
@@ -178,7 +178,7 @@ fn chosen(alloc: Global, needed: &[bool]) -> Result<Vec<u32>, AllocError>
 }
 
 /// The core of a proof by these steps.
-pub(crate) fn core_of(alloc: Global, cnf: &Cnf, steps: &Steps) -> Result<Vec<u32>, AllocError>
+pub(crate) fn core_of(alloc: Global, cnf: &Cnf, steps: &ProofSteps) -> Result<Vec<u32>, AllocError>
     requires after { IsAfter cnf.now steps.now }
     requires some { 0 < length steps.now.numbers.items }
     ensures { IfOk result (λ found. found.items ≡ core cnf.now.clauses (steps_in cnf.now steps.now)) }

@@ -13,7 +13,7 @@ use Rattle.std.proofs.lemmas.Iterator.Adapters.{position_from-zero}
 use Rattle.std.proofs.lemmas.Option.{slice_get-get_or, slice_get_past}
 use Rattle.std.proofs.lemmas.Slice.Eq.{bytes_eq-Decides}
 use Rattle.indexmap.specs.IndexSet.{insert_key}
-use Rattle.cudf_problem.specs.declared.package.Numbered.{Numbered}
+use Rattle.cudf_problem.specs.declared.package.NumberedPair.{NumberedPair}
 use Rattle.cudf_problem.specs.Ids.{Id, is_id, is_among}
 use Rattle.cudf_problem.specs.Promises.Names.{names_of_ids}
 use Rattle.cudf_problem.specs.Working.Numbers.{pair_id, pair_ids, is_pair, version_at, first_or, kept_index, AreNumbered}
@@ -105,9 +105,9 @@ text_at names name n at =
     let found = position-Some (bytes_eq name) names n [] at in
     (found.0, same_text name (get_or names n []) found.1)
 
-module _ (names : List (List ℕ)) (pairs : List Numbered) (firsts : List ℕ) (other : Numbered → Option ℕ) (are : AreNumbered names pairs firsts other) where
+module _ (names : List (List ℕ)) (pairs : List NumberedPair) (firsts : List ℕ) (other : NumberedPair → Option ℕ) (are : AreNumbered names pairs firsts other) where
   -- a pair is where it is by its number
-  pub place_of : (p : Numbered) → p.name < length names → position (is_id (pair_id names p)) (pair_ids names pairs) ≡ position (is_pair p) pairs
+  pub place_of : (p : NumberedPair) → p.name < length names → position (is_id (pair_id names p)) (pair_ids names pairs) ≡ position (is_pair p) pairs
   place_of p inside =
       sym (position-map (pair_id names) (is_id (pair_id names p)) pairs)
       ∙ position-alike (λ q. is_id (pair_id names p) (pair_id names q)) (is_pair p) pairs
@@ -130,11 +130,11 @@ module _ (names : List (List ℕ)) (pairs : List Numbered) (firsts : List ℕ) (
   first_within n first is =
       (position-Some (is_pair p) pairs first p (sym (are.found p) ∙ ap (λ o. first_or pairs p.version o (other p)) is ∙ ap (λ b. cond b (Some first) (other p)) (eq-eqb p.version p.version refl))).0
     where
-      p : Numbered
+      p : NumberedPair
       p = record { name = n; version = version_at pairs first }
 
   -- what is read of a pair is where it is
-  module _ (p q : Numbered) (first : ℕ) (inside : p.name < length names) (is : first ≡ get_or firsts p.name first) where
+  module _ (p q : NumberedPair) (first : ℕ) (inside : p.name < length names) (is : first ≡ get_or firsts p.name first) where
     begins : slice_get firsts p.name ≡ Some first
     begins = slice_get-get_or firsts p.name first (omega (arith, are.begun)) ∙ ap Some (sym is)
 
@@ -154,7 +154,7 @@ module _ (names : List (List ℕ)) (pairs : List Numbered) (firsts : List ℕ) (
     read_other at differs = read false (ne_eqb (version_at pairs first) p.version (λ e. differs (sym (version_is at) ∙ e)))
 
 -- what is found among pairs seen through their names
-pub seen : (names seen_names : List (List ℕ)) (pairs : List Numbered) (ids : List Id) (p : Numbered) (o : Option ℕ) → names ≡ seen_names → pair_ids names pairs ≡ ids
+pub seen : (names seen_names : List (List ℕ)) (pairs : List NumberedPair) (ids : List Id) (p : NumberedPair) (o : Option ℕ) → names ≡ seen_names → pair_ids names pairs ≡ ids
     → o ≡ position (is_id (pair_id names p)) (pair_ids names pairs) → o ≡ position (is_id (pair_id seen_names p)) ids
 seen names seen_names pairs ids p o same view found = found ∙ (λ i. position (is_id (pair_id (same i) p)) (view i))
 
@@ -164,14 +164,14 @@ abbrev with_name : List (List ℕ) → List ℕ → List (List ℕ)
 with_name names name = names ++ name ∷ []
 
 -- the pairs before it are as they were
-ids_kept : (names : List (List ℕ)) (name : List ℕ) (pairs : List Numbered) → ((i : ℕ) (d : Numbered) → i < length pairs → (get_or pairs i d).name < length names)
+ids_kept : (names : List (List ℕ)) (name : List ℕ) (pairs : List NumberedPair) → ((i : ℕ) (d : NumberedPair) → i < length pairs → (get_or pairs i d).name < length names)
     → pair_ids (with_name names name) pairs ≡ pair_ids names pairs
 ids_kept names name [] within = refl
 ids_kept names name (p ∷ ps) within =
     λ i. (get_or_append_left names (name ∷ []) [] p.name (within 0 p (omega arith)) i, p.version) ∷ ids_kept names name ps (λ k d lt. within (suc k) d (omega arith)) i
 
-within_push : (pairs : List Numbered) (p : Numbered) (old bound : ℕ) → old ≤ bound → p.name < bound
-    → ((i : ℕ) (d : Numbered) → i < length pairs → (get_or pairs i d).name < old) → (i : ℕ) (d : Numbered) → i < length (pairs ++ p ∷ []) → (get_or (pairs ++ p ∷ []) i d).name < bound
+within_push : (pairs : List NumberedPair) (p : NumberedPair) (old bound : ℕ) → old ≤ bound → p.name < bound
+    → ((i : ℕ) (d : NumberedPair) → i < length pairs → (get_or pairs i d).name < old) → (i : ℕ) (d : NumberedPair) → i < length (pairs ++ p ∷ []) → (get_or (pairs ++ p ∷ []) i d).name < bound
 within_push pairs p old bound more last within i d lt = by (nat_lt i (length pairs)) refl
   where
     by : (b : Bool) → nat_lt i (length pairs) ≡ b → (get_or (pairs ++ p ∷ []) i d).name < bound
@@ -192,18 +192,18 @@ pub known_kept : {A : Type 0} (same : A → A → Bool) (xs : List A) (x : A) �
 known_kept same xs x known = ap (λ b. cond b xs (xs ++ x ∷ [])) known
 
 -- the first pairs and the others find the same before a pair that is none of theirs
-kept_before : (pairs : List Numbered) (q : Numbered) (version : ℕ) (o other : Option ℕ) → ((first : ℕ) → o ≡ Some first → first < length pairs)
+kept_before : (pairs : List NumberedPair) (q : NumberedPair) (version : ℕ) (o other : Option ℕ) → ((first : ℕ) → o ≡ Some first → first < length pairs)
     → first_or (pairs ++ q ∷ []) version o other ≡ first_or pairs version o other
 kept_before pairs q version None other inside = refl
 kept_before pairs q version (Some first) other inside =
     ap (λ v. cond (v == version) (Some first) other)
-    (ap (λ vs. get_or vs first 0) (map_push (λ (p : Numbered). p.version) pairs q)
-    ∙ get_or_append_left (map (λ p. p.version) pairs) (q.version ∷ []) 0 first (omega (arith, inside first refl, length-map pairs (λ (p : Numbered). p.version))))
+    (ap (λ vs. get_or vs first 0) (map_push (λ (p : NumberedPair). p.version) pairs q)
+    ∙ get_or_append_left (map (λ p. p.version) pairs) (q.version ∷ []) 0 first (omega (arith, inside first refl, length-map pairs (λ (p : NumberedPair). p.version))))
 
-version_at-push : (pairs : List Numbered) (q : Numbered) → version_at (pairs ++ q ∷ []) (length pairs) ≡ q.version
+version_at-push : (pairs : List NumberedPair) (q : NumberedPair) → version_at (pairs ++ q ∷ []) (length pairs) ≡ q.version
 version_at-push pairs q =
-    ap (λ vs. get_or vs (length pairs) 0) (map_push (λ (p : Numbered). p.version) pairs q)
-    ∙ get_or_push (map (λ p. p.version) pairs) q.version 0 (length pairs) (length-map pairs (λ (p : Numbered). p.version))
+    ap (λ vs. get_or vs (length pairs) 0) (map_push (λ (p : NumberedPair). p.version) pairs q)
+    ∙ get_or_push (map (λ p. p.version) pairs) q.version 0 (length pairs) (length-map pairs (λ (p : NumberedPair). p.version))
 
 eqb_sym : (a b : ℕ) → (a == b) ≡ (b == a)
 eqb_sym a b = grind (arith, nat_tests)
@@ -217,7 +217,7 @@ got_last xs x i end =
     slice_get-get_or (xs ++ x ∷ []) i 0 (omega (arith, length_push xs x)) ∙ ap Some (get_or_push xs x 0 i (sym end))
 
 -- no pair has a number that no name has
-module _ (names : List (List ℕ)) (pairs : List Numbered) (firsts : List ℕ) (other : Numbered → Option ℕ) (are : AreNumbered names pairs firsts other) (q : Numbered)
+module _ (names : List (List ℕ)) (pairs : List NumberedPair) (firsts : List ℕ) (other : NumberedPair → Option ℕ) (are : AreNumbered names pairs firsts other) (q : NumberedPair)
     (past : length names ≤ q.name) where
   unnamed : position (is_pair q) pairs ≡ None
   unnamed =
@@ -229,9 +229,9 @@ module _ (names : List (List ℕ)) (pairs : List Numbered) (firsts : List ℕ) (
   unkept = ap (λ o. first_or pairs q.version o (other q)) (sym (slice_get_past firsts q.name (omega (arith, are.begun)))) ∙ are.found q ∙ unnamed
 
 -- a pair of a new name
-module _ (names : List (List ℕ)) (pairs : List Numbered) (firsts : List ℕ) (other : Numbered → Option ℕ) (are : AreNumbered names pairs firsts other) (name : List ℕ) (v : ℕ)
+module _ (names : List (List ℕ)) (pairs : List NumberedPair) (firsts : List ℕ) (other : NumberedPair → Option ℕ) (are : AreNumbered names pairs firsts other) (name : List ℕ) (v : ℕ)
     (fresh : list_any (bytes_eq name) names ≡ false) where
-  p : Numbered
+  p : NumberedPair
   p = record { name = length names; version = v }
 
   abbrev id : Id
@@ -274,7 +274,7 @@ module _ (names : List (List ℕ)) (pairs : List Numbered) (firsts : List ℕ) (
           ∙ position_push (bytes_eq name) names name
           ∙ (λ i. option_or (position_none (bytes_eq name) names fresh i) (cond (text_same name name refl i) (Some (last i)) None))
 
-      found_by : (q : Numbered) (b : Bool) → nat_lt q.name (length names) ≡ b
+      found_by : (q : NumberedPair) (b : Bool) → nat_lt q.name (length names) ≡ b
           → kept_index (pairs ++ record { name = length names; version = v } ∷ []) (firsts ++ length pairs ∷ []) other q ≡ position (is_pair q) (pairs ++ record { name = length names; version = v } ∷ [])
       found_by q true e =
           let below : q.name < length names = ltb-true q.name (length names) e in
@@ -289,7 +289,7 @@ module _ (names : List (List ℕ)) (pairs : List Numbered) (firsts : List ℕ) (
           ∙ ap (λ o. option_or o (cond (is_pair q (record { name = length names; version = v })) (Some (length pairs)) None)) (sym (unnamed names pairs firsts other are q past))
           ∙ sym (position_push (is_pair q) pairs (record { name = length names; version = v }))
         where
-          ended : (q : Numbered) → length names ≤ q.name → (b : Bool) → (q.name == length names) ≡ b
+          ended : (q : NumberedPair) → length names ≤ q.name → (b : Bool) → (q.name == length names) ≡ b
               → kept_index (pairs ++ record { name = length names; version = v } ∷ []) (firsts ++ length pairs ∷ []) other q
               ≡ option_or None (cond ((q.name == length names) && (q.version == v)) (Some (length pairs)) None)
           ended q past true same =
@@ -304,7 +304,7 @@ module _ (names : List (List ℕ)) (pairs : List Numbered) (firsts : List ℕ) (
               ∙ ap (λ c. cond (c && (q.version == v)) (Some (length pairs)) None) (sym differs)
 
 -- where no first pair was taken, what is kept of the others is
-others_then : (pairs : List Numbered) (version : ℕ) (o old now : Option ℕ) → first_or pairs version o old ≡ None → first_or pairs version o now ≡ now
+others_then : (pairs : List NumberedPair) (version : ℕ) (o old now : Option ℕ) → first_or pairs version o old ≡ None → first_or pairs version o now ≡ now
 others_then pairs version None old now none = refl
 others_then pairs version (Some first) old now none = by (version_at pairs first == version) none
   where
@@ -313,8 +313,8 @@ others_then pairs version (Some first) old now none = by (version_at pairs first
     by false none = refl
 
 -- another pair of a name
-module _ (names : List (List ℕ)) (pairs : List Numbered) (firsts : List ℕ) (other now : Numbered → Option ℕ) (are : AreNumbered names pairs firsts other) (p : Numbered)
-    (inside : p.name < length names) (fresh : position (is_pair p) pairs ≡ None) (grown : (q : Numbered) → now q ≡ cond (is_pair p q) (Some (length pairs)) (other q)) where
+module _ (names : List (List ℕ)) (pairs : List NumberedPair) (firsts : List ℕ) (other now : NumberedPair → Option ℕ) (are : AreNumbered names pairs firsts other) (p : NumberedPair)
+    (inside : p.name < length names) (fresh : position (is_pair p) pairs ≡ None) (grown : (q : NumberedPair) → now q ≡ cond (is_pair p q) (Some (length pairs)) (other q)) where
   other_new : is_among (pair_ids names pairs) (pair_id names p) ≡ false
   other_new = sym (is_some-position (is_id (pair_id names p)) (pair_ids names pairs)) ∙ ap is_some (place_of names pairs firsts other are p inside ∙ fresh)
 
@@ -337,10 +337,10 @@ module _ (names : List (List ℕ)) (pairs : List Numbered) (firsts : List ℕ) (
         ∙ sym (position_push (is_pair q) pairs p);
   }
     where
-      turned : (q : Numbered) → is_pair q p ≡ is_pair p q
+      turned : (q : NumberedPair) → is_pair q p ≡ is_pair p q
       turned q = λ i. eqb_sym q.name p.name i && eqb_sym q.version p.version i
 
-      found_by : (q : Numbered) (b : Bool) → is_pair p q ≡ b
+      found_by : (q : NumberedPair) (b : Bool) → is_pair p q ≡ b
           → first_or pairs q.version (slice_get firsts q.name) (cond (is_pair p q) (Some (length pairs)) (other q)) ≡ option_or (position (is_pair q) pairs) (cond (is_pair q p) (Some (length pairs)) None)
       found_by q true e =
           let parts = and_parts (p.name == q.name) (p.version == q.version) e in
@@ -356,7 +356,7 @@ module _ (names : List (List ℕ)) (pairs : List Numbered) (firsts : List ℕ) (
 
 -- ---- the first pairs of names, and the numbers of those of given pairs
 
-pub none_numbered : (other : Numbered → Option ℕ) → ((p : Numbered) → other p ≡ None) → AreNumbered [] [] [] other
+pub none_numbered : (other : NumberedPair → Option ℕ) → ((p : NumberedPair) → other p ≡ None) → AreNumbered [] [] [] other
 none_numbered other none = record {
   names_are = refl;
   once = λ n lt. absurd (omega arith);
@@ -365,9 +365,9 @@ none_numbered other none = record {
   found = λ p. none p;
 }
 
-module _ (names : List (List ℕ)) (pairs : List Numbered) (firsts : List ℕ) (other : Numbered → Option ℕ) (are : AreNumbered names pairs firsts other) where
+module _ (names : List (List ℕ)) (pairs : List NumberedPair) (firsts : List ℕ) (other : NumberedPair → Option ℕ) (are : AreNumbered names pairs firsts other) where
   -- the number of the name of a pair is that of its name
-  pub number_of_pair : (ids : List Id) (index : ℕ) (q : Numbered) (d : Id) → pair_ids names pairs ≡ ids → index < length pairs → q ≡ get_or pairs index q
+  pub number_of_pair : (ids : List Id) (index : ℕ) (q : NumberedPair) (d : Id) → pair_ids names pairs ≡ ids → index < length pairs → q ≡ get_or pairs index q
       → Some q.name ≡ position (bytes_eq (get_or ids index d).0) (names_of_ids ids)
   number_of_pair ids index q d view lt at =
       sym (are.once q.name (subst (λ x. x.name < length names) (sym at) (are.within index q lt)))

@@ -67,7 +67,7 @@ pub fn read_keep(text: &str) -> Option<Keep>
 #[derive(Drop)]
 pub struct Ids<'t> {
     names: IndexSet<&'t str>,
-    pairs: Vec<Numbered>,
+    pairs: Vec<NumberedPair>,
     /// For each name the index of its first pair. Most names have no other.
     firsts: Vec<usize>,
     /// The indices of all other pairs.
@@ -76,7 +76,7 @@ pub struct Ids<'t> {
 
 /// The number of a name, and a version.
 #[derive(Clone, Copy)]
-struct Numbered {
+struct NumberedPair {
     name: usize,
     version: u64,
 }
@@ -115,7 +115,7 @@ impl<'t> Ids<'t> {
         self.pairs.reserve(1)?;
         self.firsts.reserve(1)?;
         let (number, is_new) = self.names.insert_full(name)?;
-        let pair = Numbered {
+        let pair = NumberedPair {
             name: number,
             version,
         };
@@ -128,7 +128,7 @@ impl<'t> Ids<'t> {
     }
 
     /// Adds a pair of a name that came before, and says whether it is new.
-    fn insert_other(&mut self, pair: Numbered) -> Result<bool, AllocError>
+    fn insert_other(&mut self, pair: NumberedPair) -> Result<bool, AllocError>
         requires { pair.name < length (names_of_ids self.old) }
         ensures is_new { IfOk result (λ is_new.
             is_new ≡ not (is_among self.old (pair_id (names_of_ids self.old) pair))) }
@@ -169,7 +169,7 @@ impl<'t> Ids<'t> {
         ensures { result ≡ position (is_id (name.now, version)) self.now }
     {
         match self.names.get_index_of(&name) {
-            Some(number) => self.find(Numbered {
+            Some(number) => self.find(NumberedPair {
                 name: number,
                 version,
             }),
@@ -178,7 +178,7 @@ impl<'t> Ids<'t> {
     }
 
     /// How many pairs came before this one, if it is there.
-    fn find(&self, pair: Numbered) -> Option<usize>
+    fn find(&self, pair: NumberedPair) -> Option<usize>
         requires { pair.name < length (names_of_ids self.now) }
         ensures { result ≡ position (is_id (pair_id (names_of_ids self.now) pair)) self.now }
     {

@@ -15,13 +15,13 @@ use Rattle.cudf_program.specs.Failure.{open_failure}
 use Rattle.cudf_program.specs.declared.failure.Failure.{Failure}
 use Rattle.cudf_program.specs.declared.failure.Failure.TheVariants.{Memory}
 use Rattle.cudf_program.specs.declared.system.Input.{Input}
-use Rattle.cudf_program.specs.declared.system.Origin.{Origin}
-use Rattle.cudf_program.specs.declared.system.Origin.TheVariants as origin
+use Rattle.cudf_program.specs.declared.system.Stream.{Stream}
+use Rattle.cudf_program.specs.declared.system.Stream.TheVariants as origin
 
 -- ---- bytes
 
 -- the bytes that will still come from there, where it tells them: a file by `file`, and standard input by `standard`
-abbrev pub origin_left : {F S : Type 0} → (F → Option (List ℕ)) → (S → Option (List ℕ)) → Origin F S → Option (List ℕ)
+abbrev pub origin_left : {F S : Type 0} → (F → Option (List ℕ)) → (S → Option (List ℕ)) → Stream F S → Option (List ℕ)
 origin_left file standard (origin.File opened) = file opened
 origin_left file standard (origin.Standard given) = standard given
 

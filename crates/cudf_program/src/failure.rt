@@ -94,29 +94,29 @@ impl<'w> Failure<'w> {
 
 /// The input at which a run was broken off: the last one from which it read.
 #[derive(Clone, Copy)]
-pub(crate) struct Stop<'w> {
+pub(crate) struct LastInput<'w> {
     /// Its name.
     pub name: FileName<'w>,
     /// What its last read answered.
     pub reading: Reading,
 }
 
-impl<'w> Stop<'w> {
+impl<'w> LastInput<'w> {
     /// The last of these inputs that was read, or else the first of all.
     pub(crate) fn of<F: Drop, S: Drop>(
         problem: (FileName<'w>, Reader<'_, F, S>),
         names: &[FileName<'w>],
         others: Vec<Reader<'_, F, S>>,
-    ) -> Stop<'w> {
+    ) -> LastInput<'w> {
         let (name, reader) = problem;
-        let mut last = Stop {
+        let mut last = LastInput {
             name,
             reading: reader.into_inner().into_inner().reading(),
         };
         for (name, reader) in names.iter().zip(others) {
             let reading = reader.into_inner().into_inner().reading();
             if !matches!(reading, Reading::Unread) {
-                last = Stop {
+                last = LastInput {
                     name: *name,
                     reading,
                 };

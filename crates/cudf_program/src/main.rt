@@ -20,7 +20,7 @@ mod system;
 
 use cudf_check::{Device, Named, RunError, Sink, run};
 use cudf_command_line::{FileName, Order, Usage, command};
-use failure::{Failure, Stop, tell_outcome};
+use failure::{Failure, LastInput, tell_outcome};
 use std::alloc::{AllocError, Global};
 use std::env;
 use std::io::{self, Read, Write};
@@ -247,7 +247,7 @@ fn finish<F: Read + Drop, S: Read + Drop, W: Sink, E: Write>(
             outcome.status()
         }
         Err(error) => {
-            let stop = Stop::of((order.problem, problem), &order.others, others);
+            let stop = LastInput::of((order.problem, problem), &order.others, others);
             let _told = stop.tell(error, errors);
             error.status()
         }

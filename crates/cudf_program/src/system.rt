@@ -59,13 +59,13 @@ impl System for HostRuntime {
 /// An input of the program.
 #[derive(Drop)]
 pub(crate) struct Input<F, S> {
-    origin: Origin<F, S>,
+    origin: Stream<F, S>,
     reading: Reading,
 }
 
 /// Where an input comes from.
 #[derive(Drop)]
-pub(crate) enum Origin<F, S> {
+pub(crate) enum Stream<F, S> {
     /// An opened file.
     File(F),
     /// Standard input.
@@ -96,8 +96,8 @@ pub(crate) fn open<R: System, S: Read>(
     ensures left { standard.new ≡ left_behind name.entry standard.old }
 {
     let origin = match name {
-        FileName::Path(path) => Origin::File(rt.open_path(path)?),
-        FileName::Standard => Origin::Standard(standard.take().unwrap()),
+        FileName::Path(path) => Stream::File(rt.open_path(path)?),
+        FileName::Standard => Stream::Standard(standard.take().unwrap()),
     };
     Ok(Input {
         origin,
@@ -127,15 +127,15 @@ impl<F: Read, S: Read> Read for Input<F, S> {
     }
 }
 
-impl<F: Read, S: Read> Read for Origin<F, S> {
+impl<F: Read, S: Read> Read for Stream<F, S> {
     ghost use Rattle.cudf_program.specs.Inputs.{origin_left};
 
     ghost remaining = { λ origin. origin_left F.remaining S.remaining origin };
 
     fn read(&mut self, buffer: &mut [u8]) -> io::Result<usize> {
         match self {
-            Origin::File(file) => file.read(buffer),
-            Origin::Standard(standard) => standard.read(buffer),
+            Stream::File(file) => file.read(buffer),
+            Stream::Standard(standard) => standard.read(buffer),
         }
     }
 }

@@ -14,7 +14,7 @@ use Rattle.cudf_reasons.specs.Laws.{keys_of}
 use Rattle.cudf_reasons.specs.Reasons.{Keyed, PlainReason, ascending, core_of, is_of, negative_places, positive_places, reason_of, same_key}
 use Rattle.cudf_reasons.specs.Views.{needed_view}
 use Rattle.cudf_reasons.specs.Working.Gathered.{is_at, literals_in, other_places}
-use Rattle.cudf_reasons.specs.declared.gathering.Needed.{Needed}
+use Rattle.cudf_reasons.specs.declared.gathering.NeededClause.{NeededClause}
 use Rattle.cudf_reasons.proofs.GroupLemmas.{AllOfKey, StartsApart, clauses_of, grouped_run}
 use Rattle.cudf_reasons.proofs.KeyOrderLemmas.{same_is, same_itself}
 use Rattle.cudf_reasons.proofs.TableLemmas.{reason}
@@ -52,7 +52,7 @@ other_more part xs i d within =
 -- ---- CNF clauses of one key
 
 -- the key of one that is read
-pub key_read : (needed : List Needed) (i : ℕ) (d : Needed) → i < length needed → get_or (keys_of (map needed_view needed)) i (unknown_key 0) ≡ key_view (get_or needed i d).key
+pub key_read : (needed : List NeededClause) (i : ℕ) (d : NeededClause) → i < length needed → get_or (keys_of (map needed_view needed)) i (unknown_key 0) ≡ key_view (get_or needed i d).key
 key_read needed i d within =
     get_or-map (λ (n : Keyed). n.0) (map needed_view needed) i (needed_view d) (unknown_key 0) (omega (arith, length-map needed needed_view))
     ∙ ap (λ (n : Keyed). n.0) (get_or-map needed_view needed i d (needed_view d) within)
@@ -77,7 +77,7 @@ core_run key (n ∷ ks) (suc count) some within same other =
     ap core_of (sym (take-append-drop (suc count) (n ∷ ks)))
     ∙ ap (map reason_of) (grouped_run key n (take count ks) (drop count ks) (all_taken key (n ∷ ks) (suc count) same within) (apart_dropped key (n ∷ ks) (suc count) other))
 
-literals_same : (needed : List Needed) → clauses_of (map needed_view needed) ≡ literals_in needed
+literals_same : (needed : List NeededClause) → clauses_of (map needed_view needed) ≡ literals_in needed
 literals_same [] = refl
 literals_same (n ∷ needed) = ap (λ (cs : List (List Literal)). n.literals.now ∷ cs) (literals_same needed)
 
@@ -88,9 +88,9 @@ others_same part (clause ∷ clauses) =
     ∙ ap (λ (ps : List ℕ). other_places part clause ++ ps) (others_same part clauses)
 
 -- the key of the first is its own, so there is one
-pub some_of_key : (rest : List Needed) (count : ℕ) (x : Needed) → 0 < length rest → x ≡ get_or rest 0 x → (count < length rest → is_at rest count (key_view x.key) ≡ false) → 0 < count
+pub some_of_key : (rest : List NeededClause) (count : ℕ) (x : NeededClause) → 0 < length rest → x ≡ get_or rest 0 x → (count < length rest → is_at rest count (key_view x.key) ≡ false) → 0 < count
 some_of_key rest zero x some is other =
-    absurd (true≢false (sym (same_itself (key_view x.key)) ∙ sym (ap (same_key (key_view x.key)) (key_read rest 0 x some ∙ ap (λ (n : Needed). key_view n.key) (sym is))) ∙ other some))
+    absurd (true≢false (sym (same_itself (key_view x.key)) ∙ sym (ap (same_key (key_view x.key)) (key_read rest 0 x some ∙ ap (λ (n : NeededClause). key_view n.key) (sym is))) ∙ other some))
 some_of_key rest (suc count) x some is other = omega arith
 
 -- what was gathered of the first ones
@@ -99,7 +99,7 @@ gathered_is : (key : PlainKey) (clauses : List (List Literal)) (named met : List
 gathered_is key clauses named met first second =
     ap (λ (ps : List ℕ). reason key ps met) first ∙ ap (reason key (flat_map positive_places clauses)) (second ∙ ap ascending (sym (others_same key.part clauses)))
 
-pub core_step : (table : List PlainReason) (rest : List Needed) (count : ℕ) (x : Needed) (named met : List ℕ) → 0 < length rest → x ≡ get_or rest 0 x → count ≤ length rest
+pub core_step : (table : List PlainReason) (rest : List NeededClause) (count : ℕ) (x : NeededClause) (named met : List ℕ) → 0 < length rest → x ≡ get_or rest 0 x → count ≤ length rest
     → ((k : ℕ) → k < count → is_at rest k (key_view x.key) ≡ true) → (count < length rest → is_at rest count (key_view x.key) ≡ false)
     → named ≡ flat_map positive_places (literals_in (take count rest)) → met ≡ ascending (flat_map (other_places x.key.part) (literals_in (take count rest)))
     → (table ++ reason (key_view x.key) named met ∷ []) ++ core_of (map needed_view (drop count rest)) ≡ table ++ core_of (map needed_view rest)
@@ -115,6 +115,6 @@ core_step table rest count x named met some is within same other first second =
     (ap₂ (λ (r : PlainReason) (rs : List PlainReason). r ∷ rs) one (ap core_of (sym (drop-map needed_view count rest))) ∙ sym run)
 
 -- the first of what is left
-pub first_read : (needed : List Needed) (start : ℕ) (d : Needed) → start < length needed → get_or needed start d ≡ get_or (drop start needed) 0 (get_or needed start d)
+pub first_read : (needed : List NeededClause) (start : ℕ) (d : NeededClause) → start < length needed → get_or needed start d ≡ get_or (drop start needed) 0 (get_or needed start d)
 first_read needed start d within =
     get_or_default needed start d (get_or needed start d) within ∙ ap (λ n. get_or needed n (get_or needed start d)) (sym (add-zero start)) ∙ sym (get_or-drop start needed 0 (get_or needed start d))

@@ -18,7 +18,7 @@ use Rattle.cudf_reasons.specs.Reasons.{PlainReason, is_depends_or_conflicts, is_
 use Rattle.cudf_reasons.specs.Working.Runs.{comes_before, is_brought}
 use Rattle.cudf_reasons.specs.Working.Tables.{no_reason, reason_at, reason_in}
 use Rattle.cudf_reasons.specs.Working.Walks.{IsRunOf, keys_ascend}
-use Rattle.cudf_reasons.specs.declared.gathering.Row.{Row}
+use Rattle.cudf_reasons.specs.declared.gathering.Reason.{Reason}
 use Rattle.cudf_reasons.proofs.KeyOrderLemmas.{before_at}
 
 -- ---- two keys in order
@@ -92,10 +92,10 @@ upto_kept place Solution (Package n) r s o h those = absurd (cc h)
 upto_kept place p Request r s o h those = absurd (cc those)
 upto_kept place p Solution r s o h those = absurd (cc those)
 
-abbrev pub row_before : ℕ → Row → Bool
+abbrev pub row_before : ℕ → Reason → Bool
 row_before place row = comes_before place (key_view row.key).part
 
-abbrev pub row_upto : ℕ → Row → Bool
+abbrev pub row_upto : ℕ → Reason → Bool
 row_upto place row = comes_before place (key_view row.key).part || is_brought place (key_view row.key)
 
 -- ---- among rows
@@ -110,21 +110,21 @@ behind_first : (a b c : Bool) → a ≡ false → (a || b) ≡ c → b ≡ c
 behind_first true b c h e = absurd (cc h)
 behind_first false b c h e = e
 
-some_row : (rows : List Row) → 0 < length rows → Row
+some_row : (rows : List Reason) → 0 < length rows → Reason
 some_row [] h = absurd (omega arith)
 some_row (row ∷ rows) h = row
 
-module _ (places : List ℕ) (rows : List Row) where
-  key_at : (i : ℕ) (d : Row) → i < length rows → (reason_at (map (reason_in places) rows) i).key ≡ key_view (get_or rows i d).key
+module _ (places : List ℕ) (rows : List Reason) where
+  key_at : (i : ℕ) (d : Reason) → i < length rows → (reason_at (map (reason_in places) rows) i).key ≡ key_view (get_or rows i d).key
   key_at i d within = ap (λ (reason : PlainReason). reason.key) (get_or-map (reason_in places) rows i d no_reason within)
 
   -- keys of rows in order
-  rows_before : (i j : ℕ) (d : Row) → IsTrue (keys_ascend (map (reason_in places) rows)) → i < j → j < length rows → key_cmp (key_view (get_or rows i d).key) (key_view (get_or rows j d).key) ≡ Less
+  rows_before : (i j : ℕ) (d : Reason) → IsTrue (keys_ascend (map (reason_in places) rows)) → i < j → j < length rows → key_cmp (key_view (get_or rows i d).key) (key_view (get_or rows j d).key) ≡ Less
   rows_before i j d up before within =
       ap₂ key_cmp (sym (key_at i d (omega arith))) (sym (key_at j d within))
       ∙ before_at (map (reason_in places) rows) i j up before (omega (arith, length-map rows (reason_in places)))
 
-  parted : (p : PlainKey → Bool) → ((a b : PlainKey) → key_cmp a b ≡ Less → p b ≡ true → p a ≡ true) → IsTrue (keys_ascend (map (reason_in places) rows)) → IsPartitionedBy (λ (row : Row). p (key_view row.key)) rows
+  parted : (p : PlainKey → Bool) → ((a b : PlainKey) → key_cmp a b ≡ Less → p b ≡ true → p a ≡ true) → IsTrue (keys_ascend (map (reason_in places) rows)) → IsPartitionedBy (λ (row : Reason). p (key_view row.key)) rows
   parted p kept up i j d upto within here = by (cases_eq i j)
     where
       by : (i ≡ j) ⊎ (i ≢ j) → p (key_view (get_or rows i d).key) ≡ true
@@ -138,7 +138,7 @@ module _ (places : List ℕ) (rows : List Row) where
   parted_upto place = parted (λ key. upto place key.part key.rule) (λ a b h. upto_kept place a.part b.part a.rule b.rule _ h)
 
   -- the key at a place is one of those, by where the two ends are
-  those_at : (place start end : ℕ) (d : Row) → IsPartitionPoint (λ row. row_before place row ≡ true) (λ row. row_before place row ≡ false) rows start
+  those_at : (place start end : ℕ) (d : Reason) → IsPartitionPoint (λ row. row_before place row ≡ true) (λ row. row_before place row ≡ false) rows start
       → IsPartitionPoint (λ row. row_upto place row ≡ true) (λ row. row_upto place row ≡ false) rows end
       → (k : ℕ) → k < length rows → is_brought place (key_view (get_or rows k d).key) ≡ (nat_le start k && nat_lt k end)
   those_at place start end d first last k h = by (cases_lt k start) (cases_lt k end)
@@ -160,6 +160,6 @@ module _ (places : List ℕ) (rows : List Row) where
     within = omega (arith, length-map rows (reason_in places));
     those = λ k h.
         let inside : k < length rows = omega (arith, length-map rows (reason_in places)) in
-        let d : Row = some_row rows (omega arith) in
+        let d : Reason = some_row rows (omega arith) in
         ap (is_brought place) (key_at k d inside) ∙ those_at place start end d first last k inside;
   }

@@ -7,7 +7,7 @@ use Rattle.cudf_job.specs.Keys.{PlainKey}
 use Rattle.cudf_job.specs.KeyViews.{key_view}
 use Rattle.cudf_reasons.specs.Reasons.{PlainReason}
 use Rattle.cudf_reasons.specs.Working.Tables.{IsInside, reason_in}
-use Rattle.cudf_reasons.specs.declared.gathering.Row.{Row}
+use Rattle.cudf_reasons.specs.declared.gathering.Reason.{Reason}
 
 abbrev pub reason : PlainKey → List ℕ → List ℕ → PlainReason
 reason key named met = record { key = key; named = named; met = met }
@@ -24,7 +24,7 @@ range_new xs ys zs a b start end =
     let rest : drop a ((xs ++ ys) ++ zs) ≡ ys ++ zs = ap (drop a) (append_assoc xs ys zs) ∙ drop_at xs (ys ++ zs) a (sym start) in
     ap (take (b - a)) rest ∙ take_at ys zs (b - a) (omega (arith, length-append xs ys))
 
-kept : (xs ys : List ℕ) (rows : List Row) → All (IsInside xs) rows → map (reason_in (xs ++ ys)) rows ≡ map (reason_in xs) rows
+kept : (xs ys : List ℕ) (rows : List Reason) → All (IsInside xs) rows → map (reason_in (xs ++ ys)) rows ≡ map (reason_in xs) rows
 kept xs ys [] inside = refl
 kept xs ys (row ∷ rows) inside =
     let here = All-head (IsInside xs) row rows inside in
@@ -35,7 +35,7 @@ kept xs ys (row ∷ rows) inside =
     ap₂ (λ (r : PlainReason) (rs : List PlainReason). r ∷ rs) first (kept xs ys rows (All-tail (IsInside xs) row rows inside))
 
 -- a row of what was put after the places
-pub pushed : (xs named met ys zs : List ℕ) (rows more : List Row) (row : Row) → All (IsInside xs) rows → ys ≡ xs ++ named → zs ≡ ys ++ met → more ≡ rows ++ row ∷ []
+pub pushed : (xs named met ys zs : List ℕ) (rows more : List Reason) (row : Reason) → All (IsInside xs) rows → ys ≡ xs ++ named → zs ≡ ys ++ met → more ≡ rows ++ row ∷ []
     → row.start ≡ length xs → row.middle ≡ length ys → row.end ≡ length zs → map (reason_in zs) more ≡ map (reason_in xs) rows ++ reason (key_view row.key) named met ∷ []
 pushed xs named met ys zs rows more row inside first second all start middle end =
     let whole : zs ≡ (xs ++ named) ++ met = second ∙ ap (λ ws. ws ++ met) first in

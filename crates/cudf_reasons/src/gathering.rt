@@ -12,7 +12,7 @@ use std::alloc::{AllocError, Global};
 use std::marker::Model;
 
 /// The reasons of these CNF clauses, of which those of one key are one after the other.
-pub(crate) fn tabulate(alloc: Global, needed: &[Needed<'_>]) -> Result<Table, AllocError>
+pub(crate) fn tabulate(alloc: Global, needed: &[NeededClause<'_>]) -> Result<Table, AllocError>
     ensures { IfOk result (λ table. table ≡ core_of (map needed_view needed.now)) }
 {
     let mut table = Table::new(alloc);
@@ -46,7 +46,7 @@ impl Places {
     ghost use Rattle.cudf_reasons.specs.Working.Gathered.{literals_in, other_places};
 
     /// Those that an instance of this part names, and those that it is met by, in place of what was gathered before.
-    fn gather(&mut self, part: Part, clauses: &[Needed<'_>]) -> Result<(), AllocError>
+    fn gather(&mut self, part: Part, clauses: &[NeededClause<'_>]) -> Result<(), AllocError>
         ensures named { OnOk result (self.new.named.items ≡ flat_map positive_places (literals_in clauses.now)) }
         ensures met { OnOk result (self.new.met.items ≡ ascending (flat_map (other_places part) (literals_in clauses.now))) }
     {
@@ -95,7 +95,7 @@ fn sort_places(places: &mut Vec<u32>)
 }
 
 /// How many CNF clauses from the first on have this key.
-fn count_of_key(needed: &[Needed<'_>], key: Key) -> usize
+fn count_of_key(needed: &[NeededClause<'_>], key: Key) -> usize
     ensures within { result ≤ length needed.now }
     ensures same { (k : ℕ) → k < result → is_at needed.now k (key_view key) ≡ true }
     ensures other { result < length needed.now → is_at needed.now result (key_view key) ≡ false }
@@ -116,14 +116,14 @@ fn is_same(a: Key, b: Key) -> bool
 
 /// A reason: its key, and where its places are: first those that it names, and after them those that it is met by.
 #[derive(Clone, Copy)]
-pub(crate) struct Row {
+pub(crate) struct Reason {
     key: Key,
     start: usize,
     middle: usize,
     end: usize,
 }
 
-impl Row {
+impl Reason {
     ghost use Rattle.std.specs.Prelude.{◌≡◌};
     ghost use Rattle.cudf_job.specs.KeyViews.{key_view};
     ghost use Rattle.cudf_reasons.specs.Working.Runs.{comes_before, is_brought};
@@ -152,7 +152,7 @@ impl Row {
 /// Reasons. Contracts see the list of them.
 #[derive(Drop)]
 pub(crate) struct Table {
-    rows: Vec<Row>,
+    rows: Vec<Reason>,
     places: Vec<u32>,
 }
 
@@ -271,7 +271,7 @@ impl Table {
         let middle = self.places.len();
         self.places.extend_from_slice(met)?;
         let end = self.places.len();
-        self.rows.push(Row {
+        self.rows.push(Reason {
             key,
             start,
             middle,
@@ -283,7 +283,7 @@ impl Table {
 
 /// A CNF clause that a refutation needs.
 #[derive(Clone, Copy)]
-pub struct Needed<'c> {
+pub struct NeededClause<'c> {
     /// The key of its instance.
     pub key: Key,
     /// Its literals, whose places are those of packages, from 1.

@@ -7,6 +7,6 @@ pub mod laws;
 mod order;
 mod walk;
 
-pub use gathering::Needed;
+pub use gathering::NeededClause;
 pub use order::reasons;
 pub use walk::Reasons;

@@ -380,6 +380,7 @@ fn number_stanzas(unknown: &[Unknown<'_>])
     if count == 0 {
         return;
     }
+    // for the prover: what the call promises of the last holds of all
     let _last = number_at(unknown, count - 1, &mut Steps::new());
 }
 
@@ -389,6 +390,7 @@ pub(super) fn keys_can_be_written(problem: &Problem<'_>, solution: &Solution<'_>
     ensures { (proposed : List Placed) → length problem.now.packages < 2 ^ 64
         → IsNumbered (put_forward problem.now proposed (map unknown_view solution.now.unknown.items)) }
 {
+    // for the prover: slices, so their lengths fit
     let _packages = problem.packages();
     let _request = problem.request();
     number_stanzas(solution.unknown.as_slice());

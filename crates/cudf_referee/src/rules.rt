@@ -24,7 +24,7 @@ use cudf_value::Vpkg;
 
 /// What is known of a proposal beside the index of its status.
 #[derive(Clone, Copy)]
-pub(crate) struct Known<'r> {
+pub(crate) struct ProposalFacts<'r> {
     /// The packages that are to be installed.
     pub(crate) status: &'r Status,
     /// For each package, whether its name is to be kept, and one of it is to be installed.
@@ -37,7 +37,7 @@ pub(crate) struct Known<'r> {
 #[inline(always)]
 pub(crate) fn is_violated(
     now: &mut Metered<'_, '_, '_>,
-    known: Known<'_>,
+    known: ProposalFacts<'_>,
     instance: &Instance<'_>,
     steps: &mut Steps,
 ) -> bool

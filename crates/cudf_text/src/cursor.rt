@@ -98,7 +98,7 @@ impl<'t> Stanzas<'t> {
     pub fn are_countable(&self)
         ensures { length self.now.stanzas < 2 ^ 64 }
     {
-        let _ = &self.place;
+        let _ = &self.place; // for the prover
     }
 
     /// Reads the next stanza.
@@ -183,14 +183,14 @@ pub(crate) fn read_stanza<'a>(
         place.lines += 1;
         if place.fault.is_none() {
             match take(alloc, parts, others, &mut last, place.lines, line)? {
-                Taken::On => {}
-                Taken::Fault(kind) => {
+                StanzaState::On => {}
+                StanzaState::Fault(kind) => {
                     place.fault = Some(Fault {
                         line: place.lines,
                         kind,
                     });
                 }
-                Taken::End(line) => return Ok((Next::Stanza { line, last }, place)),
+                StanzaState::End(line) => return Ok((Next::Stanza { line, last }, place)),
             }
         }
     }
@@ -208,7 +208,7 @@ pub(crate) fn read_stanza<'a>(
 
 /// What a line did to the open stanza.
 #[derive(Clone, Copy)]
-pub(crate) enum Taken {
+pub(crate) enum StanzaState {
     /// It goes on.
     On,
     /// It has ended; its first property is on this line.
@@ -225,16 +225,16 @@ fn take<'a>(
     last: &mut u64,
     number: u64,
     line: &'a str,
-) -> Result<Taken, AllocError>
+) -> Result<StanzaState, AllocError>
     ensures { IfOk result (λ taken.
         step (open_state (tracked_properties parts.old.items others.old.items) last.old) number (class line.now)
         ≡ stepped taken number (open_state (tracked_properties parts.new.items others.new.items) last.new)) }
 {
     match classify(line) {
-        Line::Comment => Ok(Taken::On),
+        Line::Comment => Ok(StanzaState::On),
         Line::Blank => match first_line_of(parts.as_slice(), others.as_slice()) {
-            Some(first) => Ok(Taken::End(first)),
-            None => Ok(Taken::On),
+            Some(first) => Ok(StanzaState::End(first)),
+            None => Ok(StanzaState::On),
         },
         Line::Continuation(text) => take_continuation(alloc, parts, others, last, number, text),
         Line::Named(name, text) => {
@@ -247,7 +247,7 @@ fn take<'a>(
         }
         Line::Faulty => {
             *last = number;
-            Ok(Taken::Fault(Kind::E2))
+            Ok(StanzaState::Fault(Kind::E2))
         }
     }
 }
@@ -260,17 +260,17 @@ fn take_continuation<'a>(
     last: &mut u64,
     number: u64,
     text: &'a str,
-) -> Result<Taken, AllocError>
+) -> Result<StanzaState, AllocError>
     ensures { IfOk result (λ taken.
         continued (open_state (tracked_properties parts.old.items others.old.items) last.old) number text.now
         ≡ stepped taken number (open_state (tracked_properties parts.new.items others.new.items) last.new)) }
 {
     if first_line_of(parts.as_slice(), others.as_slice()).is_none() {
-        return Ok(Taken::Fault(Kind::E3));
+        return Ok(StanzaState::Fault(Kind::E3));
     }
     continue_last(alloc, parts, others, text)?;
     *last = number;
-    Ok(Taken::On)
+    Ok(StanzaState::On)
 }
 
 /// Takes a line with a property's name.
@@ -279,14 +279,14 @@ fn take_property<'a>(
     others: &mut Vec<Property<'a>>,
     last: &mut u64,
     part: PropertyRef<'a>,
-) -> Result<Taken, AllocError>
+) -> Result<StanzaState, AllocError>
     ensures { IfOk result (λ taken.
         (with_property (open_state (tracked_properties parts.old.items others.old.items) last.old) part.entry.line part.entry.name.now part.entry.value.now, None)
         ≡ stepped taken part.entry.line (open_state (tracked_properties parts.new.items others.new.items) last.new)) }
 {
     *last = part.line;
     add(parts, others, part)?;
-    Ok(Taken::On)
+    Ok(StanzaState::On)
 }
 
 /// The line of the first property.

@@ -152,7 +152,7 @@ fn read_text<'a>(alloc: Global, source: &'a str) -> Result<Text<'a>, AllocError>
     let mut stanzas = Vec::new(alloc);
     let mut parts = Vec::new(alloc);
     let mut others = Vec::new(alloc);
-    'stanzas: loop {
+    'stanzas: loop { // for the prover
         let (next, behind) = read_stanza(alloc, place, &mut parts, &mut others)?;
         match next {
             Next::Stanza { line, last } => {

@@ -131,7 +131,7 @@ fn are_atoms(text: &str) -> bool
     ensures { result ≡ is_some (read_parts (byte ",") clause text.now) }
 {
     let mut rest = text;
-    'atoms: loop {
+    'atoms: loop { // for the prover
         let (atom, end) = first_atom(rest);
         if atom.is_none() {
             return false;

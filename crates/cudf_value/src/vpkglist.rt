@@ -126,7 +126,7 @@ fn are_entries(text: &str, exact: bool) -> bool
     ensures { result ≡ is_some (read_parts (byte ",") (vpkg_part exact) text.now) }
 {
     let mut rest = text;
-    'parts: loop {
+    'parts: loop { // for the prover
         let (entry, next) = first_entry(rest, exact);
         if entry.is_none() {
             return false;

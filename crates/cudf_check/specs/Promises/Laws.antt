@@ -3,7 +3,7 @@ use Rattle.std.specs.Prelude.{◌≡◌, ℕ, true, false, List, ◌++◌, Optio
 use Rattle.cudf_text.specs.declared.fault.Fault.{Fault}
 use Rattle.cudf_problem.specs.Universe.{PlainProblem}
 use Rattle.cudf_lrat.specs.Answers as lrat
-use Rattle.cudf_lrat.specs.declared.checker.Kind.{Kind}
+use Rattle.cudf_lrat.specs.declared.checker.ProofFault.{ProofFault}
 use Rattle.cudf_referee.specs.Instances.{PlainInstance}
 use Rattle.cudf_referee.specs.Proposals.{Proposal}
 use Rattle.cudf_check.specs.JobStyles.{document_style, pair_style, refutation_style}
@@ -35,5 +35,5 @@ AddsToReasons = (bytes proof : List ℕ) (problem : PlainProblem) (reason : Plai
 
 -- and those of a proof's fault
 abbrev pub AddsToProofs : Type 0
-AddsToProofs = (bytes proof : List ℕ) (clauses : ℕ) (found : List ℕ → List ℕ) (number : ℕ) (kind : Kind)
+AddsToProofs = (bytes proof : List ℕ) (clauses : ℕ) (found : List ℕ → List ℕ) (number : ℕ) (kind : ProofFault)
     → AddsAfter (proof_report (refutation_style false bytes proof) clauses found (lrat.faulty number kind)).text (proof_report (refutation_style true bytes proof) clauses found (lrat.faulty number kind)).text

@@ -10,7 +10,7 @@ use Rattle.cudf_check.specs.RankReport.{judgement, entrants, placed_faults}
 use Rattle.cudf_check.specs.Report.{faulty, solution_fault}
 use Rattle.cudf_check.specs.Styles.{of_entrant, Style}
 use Rattle.cudf_device.specs.Outcomes.{Report}
-use Rattle.cudf_check.specs.declared.judging.Unranked.{Unranked}
+use Rattle.cudf_check.specs.declared.judging.RankingError.{RankingError}
 use Rattle.cudf_job.specs.Ranking.{class}
 use Rattle.cudf_job.specs.declared.ranking.Judgement.{Judgement}
 use Rattle.cudf_job.specs.declared.ranking.Entrant.{Entrant}
@@ -50,5 +50,5 @@ abbrev pub IsFaultAt : Mode → PlainProblem → List (List ℕ) → ℕ → Rea
 IsFaultAt mode problem solutions place (read_error.Fault f) = slice_get (placed_faults mode problem solutions) 0 ≡ Some (place, f)
 IsFaultAt mode problem solutions place (read_error.Memory e) = Unit {0}
 
-abbrev pub IsUnranked : Mode → PlainProblem → List (List ℕ) → Unranked → Type 0
+abbrev pub IsUnranked : Mode → PlainProblem → List (List ℕ) → RankingError → Type 0
 IsUnranked mode problem solutions unranked = IsFaultAt mode problem solutions unranked.place unranked.error

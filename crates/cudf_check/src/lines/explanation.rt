@@ -8,7 +8,7 @@ ghost use Rattle.cudf_check.specs.Explanations.{stanza_text, explained, help_of,
 ghost use Rattle.cudf_check.specs.Working.Named.{listed_by, origin_view};
 
 use crate::lines::instance::package_at;
-use crate::lines::naming::{Listed, print_listed};
+use crate::lines::naming::{StanzaLines, print_listed};
 use cudf_device::{Paper, Sink};
 use cudf_document::Package;
 use cudf_referee::{Aspect, Explainer, Instance, Remedies, What};
@@ -62,7 +62,7 @@ fn lacks_package(instance: &Instance<'_>) -> bool
 pub(crate) fn print_help<W: Sink>(
     paper: &mut Paper<'_, W>,
     remedies: &Remedies<'_, '_>,
-    listed: Listed<'_>,
+    listed: StanzaLines<'_>,
     instance: &Instance<'_>,
 )
     ensures { Says W.state paper.old paper.new (help_of (listed_by (option_map origin_view listed.entry.origin) listed.entry.lines.now) remedies.now (instance_view instance.now)) }
@@ -94,7 +94,7 @@ pub(crate) fn print_help_alone<W: Sink>(
 )
     ensures { Says W.state paper.old paper.new (help_of (λ place. []) remedies.now (instance_view instance.now)) }
 {
-    let listed = Listed {
+    let listed = StanzaLines {
         origin: None,
         lines: &[],
     };
@@ -250,7 +250,7 @@ fn print_met<W: Sink>(paper: &mut Paper<'_, W>, explainer: &Explainer<'_, '_, '_
 pub(crate) fn print_explained<W: Sink>(
     paper: &mut Paper<'_, W>,
     explainer: &Explainer<'_, '_, '_>,
-    listed: Listed<'_>,
+    listed: StanzaLines<'_>,
     instance: &Instance<'_>,
     met: Option<u64>,
 )

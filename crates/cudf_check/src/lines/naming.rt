@@ -79,7 +79,7 @@ pub(crate) fn print_faulty<W: Sink>(
 
 /// The lines of the solution's first stanzas of packages, by the places of these.
 #[derive(Clone, Copy)]
-pub(crate) struct Listed<'x> {
+pub(crate) struct StanzaLines<'x> {
     /// The solution's file, where lines name it.
     pub(crate) origin: Option<Origin<'x>>,
     /// For each package of the problem, if there is such a stanza; after the last of these there is none.
@@ -96,7 +96,7 @@ fn line_at(lines: &[Option<u64>], place: Option<u64>) -> Option<u64>
 /// Prints where the solution has the package at a place, if there is one.
 pub(crate) fn print_listed<W: Sink>(
     paper: &mut Paper<'_, W>,
-    listed: Listed<'_>,
+    listed: StanzaLines<'_>,
     place: Option<u64>,
 )
     ensures { Says W.state paper.old paper.new (said_of (listed_by (option_map origin_view listed.entry.origin) listed.entry.lines.now) place) }

@@ -16,7 +16,7 @@ ghost use Rattle.cudf_reasons.specs.Views.{needed_view, told_as};
 ghost use Rattle.cudf_check.specs.Report.{also_text, core_text, line, met_texts, needed, refute_answer, told_line};
 ghost use Rattle.cudf_check.specs.Working.Named.{proof_style, reason_style};
 ghost use Rattle.cudf_check.specs.ProofDetails.{detail_text, proof_added, text_added};
-ghost use Rattle.cudf_check.specs.Working.Said.{said_text};
+ghost use Rattle.cudf_check.specs.Working.ProofNote.{said_text};
 
 use crate::lines::detail::{format_text, print_line_text};
 use crate::lines::explanation::print_help_alone;
@@ -26,8 +26,8 @@ use cudf_cnf::{KeyedClauses, encoded};
 use cudf_device::{Outcome, Paper, Sink};
 use cudf_document::{Format, Package, Problem, format_of};
 use cudf_lrat::laws::refuted;
-use cudf_lrat::{Answer, Cnf, Detail, Kind, check, fault_detail};
-use cudf_reasons::{Needed, Reasons, reasons};
+use cudf_lrat::{Answer, Cnf, ProofDetail, ProofFault, check, fault_detail};
+use cudf_reasons::{NeededClause, Reasons, reasons};
 use cudf_referee::{Instance, InstanceFinder, Key, Remedies};
 use std::alloc::{AllocError, Global};
 use std::marker::Model;
@@ -174,14 +174,14 @@ fn needed_of<'c>(
     alloc: Global,
     clauses: &'c KeyedClauses,
     numbers: &[u32],
-) -> Result<Vec<Needed<'c>>, AllocError>
+) -> Result<Vec<NeededClause<'c>>, AllocError>
     requires { All (λ n. (0 < n) × (n ≤ length clauses.now.clauses)) numbers.now }
     ensures { IfOk result (λ found. map needed_view found.items ≡ needed clauses.now.clauses numbers.now) }
 {
     let mut found = Vec::new(alloc);
     for number in numbers {
         let index = *number as usize - 1;
-        found.push(Needed {
+        found.push(NeededClause {
             key: clauses.key(index),
             literals: clauses.clause(index),
         })?;
@@ -279,10 +279,10 @@ fn print_checked<W: Sink>(
 
 /// What is said beside a proof's first fault.
 #[derive(Clone, Copy)]
-pub(crate) enum Said<'p> {
+pub(crate) enum ProofNote<'p> {
     /// The format of which a file begins as the proof does.
     OfFormat(Format),
-    OfLine(Detail<'p>),
+    OfLine(ProofDetail<'p>),
 }
 
 /// What is said beside the fault of this kind on a line of a proof, where lines are explained.
@@ -292,18 +292,18 @@ pub(crate) fn said_of<'p>(
     cnf: &Cnf,
     proof: &'p [u8],
     number: u64,
-    kind: Kind,
+    kind: ProofFault,
     explain: bool,
-) -> Result<Option<Said<'p>>, AllocError>
+) -> Result<Option<ProofNote<'p>>, AllocError>
     ensures { IfOk result (λ said. text_added (option_map said_text said) ≡ proof_added explain proof.now (length cnf.now.clauses) number kind) }
 {
     if !explain {
         return Ok(None);
     }
     match format_of(proof) {
-        Some(format) => Ok(Some(Said::OfFormat(format))),
+        Some(format) => Ok(Some(ProofNote::OfFormat(format))),
         None => match fault_detail(alloc, cnf, proof, number, kind)? {
-            Some(detail) => Ok(Some(Said::OfLine(detail))),
+            Some(detail) => Ok(Some(ProofNote::OfLine(detail))),
             None => Ok(None),
         },
     }
@@ -319,29 +319,29 @@ fn print_clauses<W: Sink>(paper: &mut Paper<'_, W>, clauses: u32)
 }
 
 /// Prints what the proof's lines say.
-fn print_detail<W: Sink>(paper: &mut Paper<'_, W>, detail: Detail<'_>)
+fn print_detail<W: Sink>(paper: &mut Paper<'_, W>, detail: ProofDetail<'_>)
     ensures { Says W.state paper.old paper.new (detail_text (detail_view detail.entry)) }
 {
     match detail {
-        Detail::Binary => paper.text("it is a binary proof"),
-        Detail::NoHints => paper.text("a step has a number and hints"),
-        Detail::LineText { text } => print_line_text(paper, text),
-        Detail::ClauseCount { clauses } => print_clauses(paper, clauses),
+        ProofDetail::Binary => paper.text("it is a binary proof"),
+        ProofDetail::NoHints => paper.text("a step has a number and hints"),
+        ProofDetail::LineText { text } => print_line_text(paper, text),
+        ProofDetail::ClauseCount { clauses } => print_clauses(paper, clauses),
     }
 }
 
 /// Prints what is said beside a fault.
-fn print_said<W: Sink>(paper: &mut Paper<'_, W>, said: Said<'_>)
+fn print_said<W: Sink>(paper: &mut Paper<'_, W>, said: ProofNote<'_>)
     ensures { Says W.state paper.old paper.new (said_text said.entry) }
 {
     match said {
-        Said::OfFormat(format) => paper.text(format_text(format)),
-        Said::OfLine(detail) => print_detail(paper, detail),
+        ProofNote::OfFormat(format) => paper.text(format_text(format)),
+        ProofNote::OfLine(detail) => print_detail(paper, detail),
     }
 }
 
 /// Prints what is added to the line of a fault.
-fn print_added<W: Sink>(paper: &mut Paper<'_, W>, said: Option<Said<'_>>)
+fn print_added<W: Sink>(paper: &mut Paper<'_, W>, said: Option<ProofNote<'_>>)
     ensures { Says W.state paper.old paper.new (text_added (option_map said_text said.entry)) }
 {
     if let Some(said) = said {
@@ -354,8 +354,8 @@ fn print_added<W: Sink>(paper: &mut Paper<'_, W>, said: Option<Said<'_>>)
 pub(crate) fn print_step_fault<W: Sink>(
     paper: &mut Paper<'_, W>,
     number: u64,
-    kind: Kind,
-    said: Option<Said<'_>>,
+    kind: ProofFault,
+    said: Option<ProofNote<'_>>,
 )
     ensures { Says W.state paper.old paper.new (line (codes "proof line " ++ decimal number ++ codes ": " ++ kind_text kind ++ text_added (option_map said_text said.entry))) }
 {

@@ -14,7 +14,7 @@ ghost use Rattle.cudf_check.specs.Working.Pages.{Ascends, IsEnded, IsSpent, list
 
 use crate::lines::explanation::print_explained;
 use crate::lines::instance::{package_at, print_instance, print_key};
-use crate::lines::naming::Listed;
+use crate::lines::naming::StanzaLines;
 use crate::naming::Origins;
 use cudf_device::{Paper, Sink};
 use cudf_referee::{Explainer, Instance, Instances, Key, Referee};
@@ -114,7 +114,7 @@ impl<'r, 'p, 't> Scribe<'r, 'p, 't> {
         ensures { Says W.state paper.old paper.new (met_added self.now.explain (listed_by self.now.origins.solution self.now.lines) self.now.judged (instance_view instance.now) met) }
     {
         if let Some(explainer) = &self.explainer {
-            let listed = Listed {
+            let listed = StanzaLines {
                 origin: self.origins.solution,
                 lines: self.lines,
             };
@@ -169,7 +169,7 @@ fn print_first<W: Sink>(
         + cost_along instances.old.judged instances.old.position (calls (left instances.old) limit) }
 {
     let mut last = None;
-    for turn in 0..limit {
+    for turn in 0..limit { // for the prover: the invariant names it
         match instances.next() {
             Some(instance) => {
                 scribe.print_line(paper, &instance);

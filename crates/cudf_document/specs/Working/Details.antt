@@ -11,8 +11,8 @@ use Rattle.cudf_value.specs.Parts.{look_up}
 use Rattle.cudf_value.specs.Spots.{pieces}
 use Rattle.cudf_value.specs.Declarations.{PlainDeclaration}
 use Rattle.cudf_problem.specs.declared.problem.Mode.TheVariants.{Strict}
-use Rattle.cudf_document.specs.declared.details.Passed.{Passed}
-use Rattle.cudf_document.specs.declared.details.Found.{Found}
+use Rattle.cudf_document.specs.declared.details.StanzasBefore.{StanzasBefore}
+use Rattle.cudf_document.specs.declared.details.FoundStanza.{FoundStanza}
 use Rattle.cudf_problem.specs.Documents.{is_empty, postmark, is_request, has_name}
 use Rattle.cudf_problem.specs.Ids.{Id, id_of, is_known}
 use Rattle.cudf_problem.specs.Preamble.{declared}
@@ -22,11 +22,11 @@ use Rattle.cudf_document.specs.Working.Judging.{added_by}
 
 -- ---- what was passed on the way to a stanza
 
-abbrev pub nothing_passed : Passed
+abbrev pub nothing_passed : StanzasBefore
 nothing_passed = record { is_first = true; request = None; declarations = [] }
 
 -- with one stanza more
-abbrev pub passed_with : Passed → PlainStanza → Passed
+abbrev pub passed_with : StanzasBefore → PlainStanza → StanzasBefore
 passed_with p s = record {
   is_first = false;
   request = option_or p.request (if is_request s then Some s.line else None);
@@ -34,7 +34,7 @@ passed_with p s = record {
 }
 
 -- these stanzas
-abbrev pub passed_of : List PlainStanza → Passed
+abbrev pub passed_of : List PlainStanza → StanzasBefore
 passed_of before = record {
   is_first = is_empty before;
   request = option_map (λ s. s.line) (find is_request before);
@@ -42,11 +42,11 @@ passed_of before = record {
 }
 
 -- the stanza of a line, after what was passed before it
-abbrev pub found_in : Passed → ℕ → List PlainStanza → Option (Passed × PlainStanza)
+abbrev pub found_in : StanzasBefore → ℕ → List PlainStanza → Option (StanzasBefore × PlainStanza)
 found_in p line [] = None
 found_in p line (s ∷ ss) = if nat_le line s.last then Some (p, s) else found_in (passed_with p s) line ss
 
-abbrev pub found_view : Found → Passed × PlainStanza
+abbrev pub found_view : FoundStanza → StanzasBefore × PlainStanza
 found_view f = (f.passed, stanza_view f.stanza)
 
 -- ---- types
@@ -105,7 +105,7 @@ is_of_stanza E16 = true
 is_of_stanza kind = false
 
 -- what is reported of a stanza, after what was passed before it
-abbrev pub found_detail : Kind → ℕ → Passed × PlainStanza → Option PlainDetail
+abbrev pub found_detail : Kind → ℕ → StanzasBefore × PlainStanza → Option PlainDetail
 found_detail E4 line (p, s) = first_detail s
 found_detail E6 line (p, s) = option_map request_on p.request
 found_detail E7 line (p, s) = option_and_then (repeated_detail s) (property_at line s)

@@ -196,7 +196,7 @@ fn find_package<'t>(
         last: 0,
         properties: Vec::new(alloc),
     };
-    'stanzas: loop {
+    'stanzas: loop { // for the prover
         match stanzas.next(alloc, &mut stanza.properties)? {
             Next::Stanza { line: first, last } => {
                 stanza.line = first;

@@ -7,7 +7,7 @@ use crate::declarations::Declarations;
 use crate::names::SeenNames;
 use crate::package::{Identity, read_properties};
 use crate::problem::read_request;
-use crate::problem::walk::Walk;
+use crate::problem::walk::ProblemState;
 use cudf_problem::{Package, Problem, Request};
 use cudf_text::{Fault, StanzaRef};
 use std::alloc::{AllocError, Global};
@@ -165,7 +165,7 @@ impl<'a> Parts<'a> {
     pub(crate) fn into_problem(
         self,
         alloc: Global,
-        walk: Walk<'a>,
+        walk: ProblemState<'a>,
     ) -> Result<Problem<'a>, AllocError>
         requires { IsReady walk self }
         ensures { IfOk result (λ problem. problem ≡ problem_of (gathered_of walk.entry self.entry)) }

@@ -15,7 +15,7 @@ ghost use Rattle.cudf_document.specs.Working.Walks.{texts, IsSoFar, IsWhole};
 
 use crate::declarations::{Declarations, lacks_one, read_preamble, require};
 use crate::fault::{fault_if, keep_lesser, lesser};
-use crate::names::{Document, SeenNames, is_preamble, misplaced_fault, postmark_of};
+use crate::names::{DocumentKind, SeenNames, is_preamble, misplaced_fault, postmark_of};
 use crate::package::Identity;
 use crate::problem::keeping::{Names, Parts};
 use cudf_problem::{Ids, Mode, Postmark};
@@ -29,11 +29,11 @@ pub(crate) fn walk_all<'t>(
     keeps: bool,
     names: Option<Names<'t>>,
     mode: Mode,
-) -> Result<(Walk<'t>, Parts<'t>), AllocError>
+) -> Result<(ProblemState<'t>, Parts<'t>), AllocError>
     ensures { IfOk result (λ w. IsWhole mode (λ ss. AreParts keeps ss w.1) w.0 stanzas.entry) }
 {
     let mut kept = Parts::new(alloc, keeps, names);
-    let mut walk: Walk<'t> = Walk::new(alloc);
+    let mut walk: ProblemState<'t> = ProblemState::new(alloc);
     take_stanzas(alloc, stanzas, &mut walk, &mut kept, mode)?;
     Ok((walk, kept))
 }
@@ -42,7 +42,7 @@ pub(crate) fn walk_all<'t>(
 fn take_stanzas<'t>(
     alloc: Global,
     stanzas: Stanzas<'t>,
-    walk: &mut Walk<'t>,
+    walk: &mut ProblemState<'t>,
     kept: &mut Parts<'t>,
     mode: Mode,
 ) -> Result<(), AllocError>
@@ -58,7 +58,7 @@ fn take_stanzas<'t>(
         last: 0,
         properties: Vec::new(alloc),
     };
-    'stanzas: loop {
+    'stanzas: loop { // for the prover
         match stanzas.next(alloc, &mut stanza.properties)? {
             Next::Stanza { line, last } => {
                 stanza.line = line;
@@ -77,7 +77,7 @@ fn take_stanzas<'t>(
 
 /// The first fault of the stanzas so far, and what the faults of later ones rest on.
 #[derive(Drop)]
-pub(crate) struct Walk<'a> {
+pub(crate) struct ProblemState<'a> {
     pub(crate) first: Option<Fault>,
     /// What the first stanza declares.
     pub(crate) declarations: Declarations<'a>,
@@ -87,7 +87,7 @@ pub(crate) struct Walk<'a> {
     pub(crate) names: SeenNames<'a>,
 }
 
-impl<'a> Walk<'a> {
+impl<'a> ProblemState<'a> {
     ghost use Rattle.std.specs.Prelude.{◌≡◌, Bool, false, List, [], ◌∷◌, ◌++◌, None, not, max, IfOk, OnOk};
     ghost use Rattle.cudf_text.specs.Stanzas.{PlainStanza};
     ghost use Rattle.cudf_text.specs.Promises.Views.{stanza_view};
@@ -111,7 +111,7 @@ impl<'a> Walk<'a> {
         ensures declared { result.declarations ≡ [] }
         ensures first { result.first ≡ None }
     {
-        Walk {
+        ProblemState {
             first: None,
             declarations: Declarations::new(alloc),
             ids: Ids::new(alloc),
@@ -187,7 +187,12 @@ impl<'a> Walk<'a> {
     {
         let mut names = SeenNames::new(alloc);
         let fault = read_preamble(alloc, &mut names, &mut self.declarations, head)?;
-        let misplaced = misplaced_fault(Document::Problem, mode, Some(Postmark::Preamble), head);
+        let misplaced = misplaced_fault(
+            DocumentKind::Problem,
+            mode,
+            Some(Postmark::Preamble),
+            head,
+        );
         keep_lesser(&mut self.first, lesser(fault, misplaced));
         Ok(())
     }
@@ -220,7 +225,7 @@ impl<'a> Walk<'a> {
         let mark = postmark_of(stanza);
         let place = place_fault(is_first, self.requested, mark, stanza.line);
         let inside = self.judge(alloc, kept, mark, stanza, required)?;
-        let misplaced = misplaced_fault(Document::Problem, mode, mark, stanza);
+        let misplaced = misplaced_fault(DocumentKind::Problem, mode, mark, stanza);
         keep_lesser(&mut self.first, place.or(lesser(inside, misplaced)));
         self.requested = either(is_request(mark), self.requested);
         Ok(())
@@ -356,6 +361,7 @@ fn is_request(mark: Option<Postmark>) -> bool
     matches!(mark, Some(Postmark::Request))
 }
 
+// for the prover, as the next one: a branch in the caller would double its goals
 fn either(one: bool, other: bool) -> bool
     ensures { result ≡ (one || other) }
 {

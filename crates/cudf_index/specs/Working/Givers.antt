@@ -7,13 +7,13 @@ use Rattle.cudf_index.specs.Promises.Counts.{count_pairs, differ}
 use Rattle.cudf_index.specs.Promises.Places.{gives_number}
 use Rattle.cudf_index.specs.Satisfaction.{Placed, is_below_one, meets_alone}
 use Rattle.cudf_index.specs.Working.Extents.{count_over, is_same, sole_number}
-use Rattle.cudf_index.specs.Working.Wanted.{passes}
+use Rattle.cudf_index.specs.Working.ProvisionTest.{passes}
 use Rattle.cudf_index.specs.declared.index.extents.Extents.{Extents}
-use Rattle.cudf_index.specs.declared.index.counts.Unsorted.{Unsorted}
+use Rattle.cudf_index.specs.declared.index.counts.PackageNumbers.{PackageNumbers}
 use Rattle.cudf_index.specs.declared.index.gathered_names.Provision.{Provision}
 use Rattle.cudf_index.specs.declared.index.counts.Gathering.{Gathering}
 use Rattle.cudf_index.specs.declared.index.counts.Givers.{Givers}
-use Rattle.cudf_index.specs.declared.index.named_trees.Wanted.TheVariants.{Meeting, Number}
+use Rattle.cudf_index.specs.declared.index.named_trees.ProvisionTest.TheVariants.{Meeting, Number}
 
 -- ---- a row by packages
 
@@ -50,18 +50,18 @@ runs_differ run other = numbers_differ (numbers_given run) (numbers_given other)
 abbrev pub count_within : Option (Relop × ℕ) → Extents → ℕ
 count_within bound e = count_over bound e.least e.greatest e.each e.only
 
-abbrev pub count_gathered : Option (Relop × ℕ) → Unsorted → ℕ
+abbrev pub count_gathered : Option (Relop × ℕ) → PackageNumbers → ℕ
 count_gathered bound u = count_over bound u.least.items u.greatest.items u.each.items u.only.items
 
 -- a package more, whose numbers ascend
-pub record Adds (numbers : List ℕ) (old new : Unsorted) : Type 0 where
+pub record Adds (numbers : List ℕ) (old new : PackageNumbers) : Type 0 where
   pub least : new.least.items ≡ old.least.items ++ option_to_list (slice_get numbers 0)
   pub greatest : new.greatest.items ≡ old.greatest.items ++ option_to_list (slice_get numbers (length numbers - 1))
   pub each : new.each.items ≡ old.each.items ++ numbers
   pub only : new.only.items ≡ old.only.items ++ option_to_list (sole_number numbers)
 
 -- the same in order
-pub record Sorts (u : Unsorted) (e : Extents) : Type 0 where
+pub record Sorts (u : PackageNumbers) (e : Extents) : Type 0 where
   pub within : (bound : Option (Relop × ℕ)) → count_within bound e ≡ count_gathered bound u
   pub pairs : count_pairs is_same e.only ≡ count_pairs is_same u.only.items
 

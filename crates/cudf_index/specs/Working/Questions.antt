@@ -8,10 +8,10 @@ use Rattle.cudf_value.specs.declared.vpkg.Vpkg.{Vpkg}
 use Rattle.cudf_index.specs.Satisfaction.{Placed, meets_alone}
 use Rattle.cudf_index.specs.Working.Gathering.{given_by}
 use Rattle.cudf_index.specs.Working.Places.{has, passes_at}
-use Rattle.cudf_index.specs.Working.Wanted.{passes}
+use Rattle.cudf_index.specs.Working.ProvisionTest.{passes}
 use Rattle.cudf_index.specs.declared.index.gathered_names.Provision.{Provision}
-use Rattle.cudf_index.specs.declared.index.named_trees.Wanted.{Wanted}
-use Rattle.cudf_index.specs.declared.index.named_trees.Wanted.TheVariants.{Meeting, Number}
+use Rattle.cudf_index.specs.declared.index.named_trees.ProvisionTest.{ProvisionTest}
+use Rattle.cudf_index.specs.declared.index.named_trees.ProvisionTest.TheVariants.{Meeting, Number}
 
 -- the place is there, or the package at it answers one of the questions
 abbrev pub will_have : List ℕ → List Vpkg → List Placed → ℕ → Bool
@@ -28,12 +28,12 @@ PassesOrAsks false test own status old asked new asking = WillAdd test status ol
 
 -- ---- what is left to ask
 
-abbrev pub passes_left : Option Wanted → Provision → Bool
+abbrev pub passes_left : Option ProvisionTest → Provision → Bool
 passes_left None g = false
 passes_left (Some w) g = passes w g
 
 -- all that meet a bound pass what is left, or meet the bound that was asked before; nothing else does
-abbrev pub LeavesBound : Option (Relop × ℕ) → Option (Relop × ℕ) → Option Wanted → Type 0
+abbrev pub LeavesBound : Option (Relop × ℕ) → Option (Relop × ℕ) → Option ProvisionTest → Type 0
 LeavesBound asked bound left = (g : Provision) → (passes (Meeting asked) g || passes_left left g) ≡ (passes (Meeting asked) g || passes (Meeting bound) g)
 
 -- of bounds with one operator: each number that meets the second meets the first
@@ -46,7 +46,7 @@ covers Leq asked number = nat_le number asked
 covers Lt asked number = nat_le number asked && nat_lt 1 number
 
 -- and what is left where it doesn't
-abbrev pub rest_of : Relop → ℕ → ℕ → Wanted
+abbrev pub rest_of : Relop → ℕ → ℕ → ProvisionTest
 rest_of Eq asked number = Number (Some (Eq, number))
 rest_of Neq asked number = Number (Some (Eq, asked))
 rest_of relop asked number = Meeting (Some (relop, number))
@@ -61,7 +61,7 @@ answers None place status = false
 answers (Some v) place status = passes_at (meets_alone (vpkg_view v)) place status
 
 -- the same of what is left of a question where another one is answered
-abbrev pub Leaves : Option Vpkg → Vpkg → Option Wanted → Type 0
+abbrev pub Leaves : Option Vpkg → Vpkg → Option ProvisionTest → Type 0
 Leaves asked question left = (place : ℕ) (status : List Placed) → (answers asked place status || gives_at (passes_left left) question.name.now place status) ≡ (answers asked place status || passes_at (meets_alone (vpkg_view question)) place status)
 
 -- what was asked last is there, and so is the answer to each question so far

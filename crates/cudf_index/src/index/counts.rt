@@ -82,7 +82,7 @@ impl<'i, 'p, 't> Counts<'i, 'p, 't> {
     fn of(&self, name: &str) -> Option<&Givers>
         ensures { CountsOf name.now self.now (option_map (λ g. g.now) result) }
     {
-        let _ = &self.index;
+        let _ = &self.index; // for the prover
         match self.given.gathered.names.get_index_of(&name) {
             Some(number) => self.givers.get(number),
             None => None,
@@ -99,7 +99,7 @@ impl<'p, 't> Index<'p, 't> {
     pub fn counts(&self, alloc: Global) -> Result<Counts<'_, 'p, 't>, AllocError>
         ensures { IfOk result (λ counts. counts ≡ self.now) }
     {
-        let _ = &self.problem;
+        let _ = &self.problem; // for the prover
         Ok(Counts {
             index: self,
             given: &self.given,
@@ -173,8 +173,8 @@ fn counted(alloc: Global, row: &[Provision]) -> Result<Givers, AllocError>
 /// The numbers of a row as they are gathered.
 #[derive(Drop)]
 struct Gathering {
-    numbers: Unsorted,
-    pure: Unsorted,
+    numbers: PackageNumbers,
+    pure: PackageNumbers,
     unversioned: usize,
     /// Those of one package.
     run: Vec<u64>,
@@ -187,8 +187,8 @@ impl Gathering {
         ensures unversioned { result.unversioned ≡ 0 }
     {
         Gathering {
-            numbers: Unsorted::new(alloc),
-            pure: Unsorted::new(alloc),
+            numbers: PackageNumbers::new(alloc),
+            pure: PackageNumbers::new(alloc),
             unversioned: 0,
             run: Vec::new(alloc),
         }
@@ -236,14 +236,14 @@ fn any_unversioned(run: &[Provision]) -> bool
 
 /// The numbers of packages, gathered package by package.
 #[derive(Drop)]
-pub(crate) struct Unsorted {
+pub(crate) struct PackageNumbers {
     least: Vec<u64>,
     greatest: Vec<u64>,
     each: Vec<u64>,
     only: Vec<u64>,
 }
 
-impl Unsorted {
+impl PackageNumbers {
     /// Of no package. It takes no memory.
     pub(crate) fn new(alloc: Global) -> Self
         ensures least { result.least.items ≡ [] }
@@ -251,7 +251,7 @@ impl Unsorted {
         ensures each { result.each.items ≡ [] }
         ensures only { result.only.items ≡ [] }
     {
-        Unsorted {
+        PackageNumbers {
             least: Vec::new(alloc),
             greatest: Vec::new(alloc),
             each: Vec::new(alloc),

@@ -249,23 +249,23 @@ pub(crate) struct Entries {
 
 /// How many provisions of a name meet a bound: numbers, and unversioned provisions.
 #[derive(Clone, Copy)]
-pub(crate) struct Met {
+pub(crate) struct MetCounts {
     pub(crate) numbers: usize,
     pub(crate) unversioned: usize,
 }
 
-impl Met {
+impl MetCounts {
     pub(crate) fn none() -> Self
         ensures { result ≡ record { numbers = 0; unversioned = 0 } }
     {
-        Met {
+        MetCounts {
             numbers: 0,
             unversioned: 0,
         }
     }
 
     /// Whether there are more of one kind than those of a package.
-    pub(crate) fn exceeds(self, own: Met) -> bool
+    pub(crate) fn exceeds(self, own: MetCounts) -> bool
         ensures { result ≡ (nat_lt own.numbers self.numbers || nat_lt own.unversioned self.unversioned) }
     {
         self.numbers > own.numbers || self.unversioned > own.unversioned
@@ -283,13 +283,13 @@ impl Entries {
     }
 
     /// How many of them meet the bound.
-    pub(crate) fn met(&self, bound: Option<(Relop, u64)>, steps: &mut Steps) -> Met
+    pub(crate) fn met(&self, bound: Option<(Relop, u64)>, steps: &mut Steps) -> MetCounts
         ensures numbers { result.numbers ≡ count_by (meets bound) self.now.numbers }
         ensures unversioned { result.unversioned ≡ (if is_below_one bound then 0 else self.now.unversioned) }
         ensures price { steps.new ≤ steps.old + 2 * digits (length self.now.numbers) }
         ensures grows { steps.old ≤ steps.new }
     {
-        Met {
+        MetCounts {
             numbers: self.numbers.count(bound, steps),
             unversioned: self.unversioned_met(bound),
         }

@@ -10,7 +10,7 @@ ghost use Rattle.cudf_index.specs.Working.Members.{lesser_of, member_view};
 ghost use Rattle.cudf_index.specs.Promises.Prices.{own_entries};
 ghost use Rattle.cudf_index.specs.Working.Shares.{GivesMuch, AreShares};
 
-use crate::index::gathered_names::{Entries, GatheredNames, Met, entries_of};
+use crate::index::gathered_names::{Entries, GatheredNames, MetCounts, entries_of};
 use crate::steps::Steps;
 use cudf_problem::{Package, Problem, Status};
 use cudf_value::{Vpkg, VpkgList, meets};
@@ -185,20 +185,20 @@ impl<'p, 't> Share<'p, 't> {
 
     /// How many of the numbers that the package gives meet the vpkg, and how often it gives all
     /// versions of the name.
-    pub(crate) fn met(&self, vpkg: &Vpkg<'_>, steps: &mut Steps) -> Met
+    pub(crate) fn met(&self, vpkg: &Vpkg<'_>, steps: &mut Steps) -> MetCounts
         ensures numbers { result.numbers ≡ count_by (is_met_by (vpkg_view vpkg.now)) (package_pairs self.now.1) }
         ensures unversioned { result.unversioned ≡ count_by (λ given. bytes_eq given vpkg.now.name.now) (filter_map unversioned_name self.now.1.provides) }
         ensures price { steps.new ≤ steps.old + own_entries (Some self.now) }
         ensures grows { steps.old + 1 ≤ steps.new }
     {
-        let _ = &self.member;
+        let _ = &self.member; // for the prover
         steps.tick();
         match self.kept(vpkg.name) {
-            Some(entries) => Met {
+            Some(entries) => MetCounts {
                 numbers: entries.numbers.count(vpkg.bound, steps),
                 unversioned: entries.unversioned,
             },
-            None => Met::none(),
+            None => MetCounts::none(),
         }
     }
 

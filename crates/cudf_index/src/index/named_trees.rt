@@ -5,9 +5,9 @@ ghost use Rattle.std.specs.FinSet as set;
 ghost use Rattle.cudf_value.specs.Promises.Views.{vpkg_view};
 ghost use Rattle.cudf_index.specs.Working.FirstPlaces.{first_place_of, first_version_of, number_meets, is_sole, may_meet};
 ghost use Rattle.cudf_index.specs.Working.Gathering.{row_of, has_row, given_of};
-ghost use Rattle.cudf_index.specs.Working.Wanted.{with_all, passes, some_passes, ends_in, with_new, with_passing};
+ghost use Rattle.cudf_index.specs.Working.ProvisionTest.{with_all, passes, some_passes, ends_in, with_new, with_passing};
 ghost use Rattle.cudf_index.specs.Working.Members.{is_other};
-ghost use Rattle.cudf_index.specs.declared.index.named_trees.Wanted.TheVariants.{Number};
+ghost use Rattle.cudf_index.specs.declared.index.named_trees.ProvisionTest.TheVariants.{Number};
 ghost use Rattle.cudf_index.specs.Promises.Members.{outside};
 ghost use Rattle.cudf_index.specs.Satisfaction.{first_meeting, first_named};
 
@@ -92,7 +92,7 @@ impl<'t> NamedTrees<'t> {
     pub(crate) fn all(
         &self,
         name: &str,
-        wanted: Wanted,
+        wanted: ProvisionTest,
         places: &mut Vec<u64>,
     ) -> Result<(), AllocError>
         ensures { OnOk result (places.new.items ≡ with_all wanted places.old.items (row_of name.now self.now.gathered)) }
@@ -208,7 +208,7 @@ impl ProvisionTree {
     ///
     /// Its cost is that of a search at each answer, times the binary digits of the number of provisions: a first half is
     /// entered only where one of its provisions is wanted, and not where all of them are of one package.
-    pub(crate) fn all(&self, wanted: Wanted, places: &mut Vec<u64>) -> Result<(), AllocError>
+    pub(crate) fn all(&self, wanted: ProvisionTest, places: &mut Vec<u64>) -> Result<(), AllocError>
         ensures { OnOk result (places.new.items ≡ with_all wanted places.old.items self.now) }
     {
         match &self.node {
@@ -310,7 +310,7 @@ pub(crate) fn meets_bound(provision: Provision, bound: Option<(Relop, u64)>) -> 
 
 /// What is asked of a provision.
 #[derive(Clone, Copy)]
-pub(crate) enum Wanted {
+pub(crate) enum ProvisionTest {
     /// Its number, or some version where it has none, meets the bound.
     Meeting(Option<(Relop, u64)>),
     /// It has a number that meets the bound.
@@ -319,15 +319,15 @@ pub(crate) enum Wanted {
     Version,
 }
 
-impl Wanted {
+impl ProvisionTest {
     /// Whether this provision is wanted.
     pub(crate) fn passes(self, provision: Provision) -> bool
         ensures { result ≡ passes self provision }
     {
         match self {
-            Wanted::Meeting(bound) => meets_bound(provision, bound),
-            Wanted::Number(bound) => has_number(provision, bound),
-            Wanted::Version => provision.is_version,
+            ProvisionTest::Meeting(bound) => meets_bound(provision, bound),
+            ProvisionTest::Number(bound) => has_number(provision, bound),
+            ProvisionTest::Version => provision.is_version,
         }
     }
 
@@ -336,9 +336,9 @@ impl Wanted {
         ensures { result ≡ some_passes self entries.now }
     {
         match self {
-            Wanted::Meeting(bound) => entries.any(bound, &mut Steps::new()),
-            Wanted::Number(bound) => entries.numbers.any(bound, &mut Steps::new()),
-            Wanted::Version => entries.is_package,
+            ProvisionTest::Meeting(bound) => entries.any(bound, &mut Steps::new()),
+            ProvisionTest::Number(bound) => entries.numbers.any(bound, &mut Steps::new()),
+            ProvisionTest::Version => entries.is_package,
         }
     }
 }
@@ -377,7 +377,7 @@ fn ends_in(places: &[u64], place: u64) -> bool
 /// Puts the places of those that are wanted after the others, each once.
 pub(crate) fn put_each(
     row: &[Provision],
-    wanted: Wanted,
+    wanted: ProvisionTest,
     places: &mut Vec<u64>,
 ) -> Result<(), AllocError>
     ensures { OnOk result (places.new.items ≡ with_all wanted places.old.items row.now) }
@@ -391,7 +391,7 @@ pub(crate) fn put_each(
 /// Puts the place of a provision after the others, if it is wanted.
 fn put_if_wanted(
     provision: Provision,
-    wanted: Wanted,
+    wanted: ProvisionTest,
     places: &mut Vec<u64>,
 ) -> Result<(), AllocError>
     ensures { OnOk result (places.new.items ≡ with_passing wanted places.old.items provision) }

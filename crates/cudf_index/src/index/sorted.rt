@@ -85,7 +85,7 @@ impl Sorted {
         ensures price { steps.new ≤ steps.old + 2 * digits (length self.now) }
         ensures grows { steps.old ≤ steps.new }
     {
-        let _ = &self.numbers;
+        let _ = &self.numbers; // for the prover
         let len = self.len();
         if len == 0 {
             return false;
@@ -101,7 +101,7 @@ impl Sorted {
         ensures price { steps.new ≤ steps.old + 2 * digits (length self.now) }
         ensures grows { steps.old ≤ steps.new }
     {
-        let _ = &self.numbers;
+        let _ = &self.numbers; // for the prover
         let len = self.len();
         if len == 0 {
             return false;
@@ -137,7 +137,7 @@ impl Sorted {
         ensures price { steps.new ≤ steps.old + 1 }
         ensures grows { steps.old ≤ steps.new }
     {
-        let _ = &self.numbers;
+        let _ = &self.numbers; // for the prover
         if self.len() == 0 {
             return None;
         }
@@ -150,7 +150,7 @@ impl Sorted {
         ensures price { steps.new ≤ steps.old + 1 }
         ensures grows { steps.old ≤ steps.new }
     {
-        let _ = &self.numbers;
+        let _ = &self.numbers; // for the prover
         let len = self.len();
         if len == 0 {
             return None;
@@ -206,7 +206,7 @@ impl Sorted {
         ensures price { steps.new ≤ steps.old + digits high }
         ensures grows { steps.old ≤ steps.new }
     {
-        let _ = &self.numbers;
+        let _ = &self.numbers; // for the prover
         let mut low = 0;
         let mut high = high;
         while low < high {

@@ -11,7 +11,7 @@ ghost use Rattle.cudf_index.specs.Working.Questions.{AnswersMore, PassesOrAsks, 
 
 use crate::index::Index;
 use crate::index::gathered_names::is_below_one;
-use crate::index::named_trees::{Wanted, put_each};
+use crate::index::named_trees::{ProvisionTest, put_each};
 use crate::steps::Steps;
 use cudf_value::{Atom, Clause, Relop, Vpkg};
 use std::alloc::AllocError;
@@ -34,7 +34,7 @@ impl<'p, 't> Index<'p, 't> {
         ensures own { IfOk result (λ is. is ≡ list_any (λ q. q.0 == own) (filter (meets_clause_alone (clause_view clause.now)) self.now)) }
         ensures all { IfOk result (λ is. is ≡ false → places.new.items ≡ places_where (meets_clause_alone (clause_view clause.now)) self.now) }
     {
-        let _ = &self.problem;
+        let _ = &self.problem; // for the prover
         places.clear();
         let mut questions = Vec::new(*places.allocator());
         if self.put_or_ask(clause, own, places, &mut questions)? {
@@ -97,7 +97,7 @@ impl<'p, 't> Index<'p, 't> {
         let Some(number) = self.given.gathered.names.get_index_of(&vpkg.name) else {
             return Ok(false);
         };
-        let wanted = Wanted::Meeting(vpkg.bound);
+        let wanted = ProvisionTest::Meeting(vpkg.bound);
         let Some(tree) = self.given.tree(number) else {
             put_each(self.given.gathered.row(number), wanted, places)?;
             return Ok(false);
@@ -242,39 +242,39 @@ fn rank(bound: Option<(Relop, u64)>) -> (u8, u64) {
 }
 
 /// What is left to ask of a question where another one is answered.
-pub(crate) fn left_to_ask(asked: Option<Vpkg<'_>>, question: &Vpkg<'_>) -> Option<Wanted>
+pub(crate) fn left_to_ask(asked: Option<Vpkg<'_>>, question: &Vpkg<'_>) -> Option<ProvisionTest>
     ensures { Leaves asked.entry question.now result }
 {
     let Some(asked) = asked else {
-        return Some(Wanted::Meeting(question.bound));
+        return Some(ProvisionTest::Meeting(question.bound));
     };
     if asked.name == question.name {
         return left_of(asked.bound, question.bound);
     }
-    Some(Wanted::Meeting(question.bound))
+    Some(ProvisionTest::Meeting(question.bound))
 }
 
 /// The same of two bounds of one name.
-fn left_of(asked: Option<(Relop, u64)>, bound: Option<(Relop, u64)>) -> Option<Wanted>
+fn left_of(asked: Option<(Relop, u64)>, bound: Option<(Relop, u64)>) -> Option<ProvisionTest>
     ensures { LeavesBound asked bound result }
 {
     let Some((by, met)) = asked else {
         return None;
     };
     let Some((relop, number)) = bound else {
-        return Some(Wanted::Meeting(bound));
+        return Some(ProvisionTest::Meeting(bound));
     };
     if by == relop {
         return left_by(relop, met, number);
     }
     if relop == Relop::Eq && !is_below_one(asked) {
-        return Some(Wanted::Number(bound));
+        return Some(ProvisionTest::Number(bound));
     }
-    Some(Wanted::Meeting(bound))
+    Some(ProvisionTest::Meeting(bound))
 }
 
 /// The same of two bounds with one operator.
-fn left_by(relop: Relop, asked: u64, number: u64) -> Option<Wanted>
+fn left_by(relop: Relop, asked: u64, number: u64) -> Option<ProvisionTest>
     ensures { LeavesBound (Some (relop, asked)) (Some (relop, number)) result }
 {
     if covers(relop, asked, number) {
@@ -297,12 +297,12 @@ fn covers(relop: Relop, asked: u64, number: u64) -> bool
 }
 
 /// What is left of the second where they don't.
-fn rest_of(relop: Relop, asked: u64, number: u64) -> Wanted
+fn rest_of(relop: Relop, asked: u64, number: u64) -> ProvisionTest
     ensures { result ≡ rest_of relop asked number }
 {
     match relop {
-        Relop::Eq => Wanted::Number(Some((Relop::Eq, number))),
-        Relop::Neq => Wanted::Number(Some((Relop::Eq, asked))),
-        _ => Wanted::Meeting(Some((relop, number))),
+        Relop::Eq => ProvisionTest::Number(Some((Relop::Eq, number))),
+        Relop::Neq => ProvisionTest::Number(Some((Relop::Eq, asked))),
+        _ => ProvisionTest::Meeting(Some((relop, number))),
     }
 }

@@ -6,19 +6,19 @@ use std::marker::Model;
 
 /// A number that only contracts see.
 #[derive(Drop)]
-pub(crate) struct Mark {
+pub(crate) struct GhostNumber {
     pub(crate) ghost total: { ℕ },
 }
 
-impl Model for Mark {
+impl Model for GhostNumber {
     ghost also_owns = { λ _. ftrue };
 }
 
-impl Mark {
-    pub(crate) fn new() -> Mark
+impl GhostNumber {
+    pub(crate) fn new() -> GhostNumber
         ensures { result.total ≡ 0 }
     {
-        Mark {}
+        GhostNumber {}
     }
 
     pub(crate) fn grow(&mut self, _by: usize)

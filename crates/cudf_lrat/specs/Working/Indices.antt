@@ -4,7 +4,7 @@ use Rattle.cudf_lrat.specs.Lists.{lists_in}
 use Rattle.cudf_lrat.specs.Literals.{PlainCnf}
 use Rattle.cudf_lrat.specs.Steps.{Derived, is_unnamed, named_clause}
 use Rattle.cudf_lrat.specs.declared.cnf.Literal.{Literal}
-use Rattle.cudf_lrat.specs.declared.steps.Steps.{Steps}
+use Rattle.cudf_lrat.specs.declared.steps.ProofSteps.{ProofSteps}
 
 -- the number of an index, where the CNF has so many clauses and the steps these numbers
 abbrev pub number_at : ℕ → List ℕ → ℕ → ℕ
@@ -33,26 +33,26 @@ pub record IsDerivation (cnf : PlainCnf) (numbers : List ℕ) (clauses : List (L
   pub earlier : (k : ℕ) → k < length numbers → All (λ index. index < length cnf.clauses + k) (slice_index_or used k [])
   pub within : All (λ clause. All (λ l. l.variable ≤ cnf.variables) clause) clauses
 
-abbrev pub IsAfter : PlainCnf → Steps → Type 0
+abbrev pub IsAfter : PlainCnf → ProofSteps → Type 0
 IsAfter cnf steps = IsDerivation cnf steps.numbers.items (lists_in steps.clauses) (lists_in steps.used)
 
 -- the steps, the last one first
-abbrev pub steps_in : PlainCnf → Steps → List Derived
+abbrev pub steps_in : PlainCnf → ProofSteps → List Derived
 steps_in cnf steps = steps_below (length cnf.clauses) steps.numbers.items (lists_in steps.clauses) (lists_in steps.used) (length steps.numbers.items)
 
 -- the clause of an index
-abbrev pub indexed : PlainCnf → Steps → ℕ → List Literal
+abbrev pub indexed : PlainCnf → ProofSteps → ℕ → List Literal
 indexed cnf steps index = slice_index_or (cnf.clauses ++ lists_in steps.clauses) index []
 
 -- the index is that of the clause with the number
-pub record IsIndexOf (cnf : PlainCnf) (steps : Steps) (number index : ℕ) : Type 0 where
+pub record IsIndexOf (cnf : PlainCnf) (steps : ProofSteps) (number index : ℕ) : Type 0 where
   pub inside : index < length cnf.clauses + length steps.numbers.items
   pub number_is : number_at (length cnf.clauses) steps.numbers.items index ≡ number
   pub named : is_unnamed cnf.clauses (steps_in cnf steps) number ≡ false
   pub clause_is : indexed cnf steps index ≡ named_clause cnf.clauses (steps_in cnf steps) number
 
 -- the indices are those of the clauses with the numbers
-pub record AreIndicesOf (cnf : PlainCnf) (steps : Steps) (numbers indices : List ℕ) : Type 0 where
+pub record AreIndicesOf (cnf : PlainCnf) (steps : ProofSteps) (numbers indices : List ℕ) : Type 0 where
   pub inside : All (λ index. index < length cnf.clauses + length steps.numbers.items) indices
   pub numbers_are : map (number_at (length cnf.clauses) steps.numbers.items) indices ≡ numbers
   pub clauses_are : All (λ index. named_clause cnf.clauses (steps_in cnf steps) (number_at (length cnf.clauses) steps.numbers.items index) ≡ indexed cnf steps index) indices

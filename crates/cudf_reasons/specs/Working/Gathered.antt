@@ -7,9 +7,9 @@ use Rattle.cudf_lrat.specs.declared.cnf.Literal.{Literal}
 use Rattle.cudf_reasons.specs.Laws.{keys_of}
 use Rattle.cudf_reasons.specs.Reasons.{is_of, negative_places, same_key}
 use Rattle.cudf_reasons.specs.Views.{needed_view}
-use Rattle.cudf_reasons.specs.declared.gathering.Needed.{Needed}
+use Rattle.cudf_reasons.specs.declared.gathering.NeededClause.{NeededClause}
 
-abbrev pub literals_in : List Needed → List (List Literal)
+abbrev pub literals_in : List NeededClause → List (List Literal)
 literals_in needed = map (λ n. n.literals.now) needed
 
 -- the places of its negative literals, other than the part's own
@@ -17,5 +17,5 @@ abbrev pub other_places : Part → List Literal → List ℕ
 other_places part clause = filter (λ place. not (is_of place part)) (negative_places clause)
 
 -- the CNF clause at this index has the key
-abbrev pub is_at : List Needed → ℕ → PlainKey → Bool
+abbrev pub is_at : List NeededClause → ℕ → PlainKey → Bool
 is_at needed index key = same_key key (slice_index_or (keys_of (map needed_view needed)) index (unknown_key 0))

@@ -4,10 +4,10 @@ use Rattle.cudf_job.specs.Working.Keys.{unknown_key}
 use Rattle.cudf_job.specs.KeyViews.{key_view}
 use Rattle.cudf_reasons.specs.Reasons.{PlainReason}
 use Rattle.cudf_reasons.specs.Views.{Told, told_as}
-use Rattle.cudf_reasons.specs.declared.gathering.Row.{Row}
+use Rattle.cudf_reasons.specs.declared.gathering.Reason.{Reason}
 
 -- the reason of a row
-abbrev pub reason_in : List ℕ → Row → PlainReason
+abbrev pub reason_in : List ℕ → Reason → PlainReason
 reason_in places row = record {
   key = key_view row.key;
   named = slice_range places row.start row.middle;
@@ -15,7 +15,7 @@ reason_in places row = record {
 }
 
 -- its places are in the list of all
-abbrev pub IsInside : List ℕ → Row → Type 0
+abbrev pub IsInside : List ℕ → Reason → Type 0
 IsInside places row = (row.start ≤ row.middle) × (row.middle ≤ row.end) × (row.end ≤ length places)
 
 abbrev pub no_reason : PlainReason

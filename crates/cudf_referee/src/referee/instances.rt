@@ -16,7 +16,7 @@ ghost use Rattle.cudf_referee.specs.Working.Searches.{unknown_left};
 
 use crate::instance::Instance;
 use crate::left::{Candidate, Left, RequestLeft};
-use crate::rules::{Known, is_violated};
+use crate::rules::{ProposalFacts, is_violated};
 use cudf_index::{Index, Metered, Steps};
 use cudf_job::{Key, Part};
 use cudf_problem::{Package, Problem, Solution, Unknown};
@@ -163,7 +163,7 @@ impl<'r, 'p, 't> Instances<'r, 'p, 't> {
         ensures placed { placed_view result ≡ (index + 1, package_view «package».now) }
         ensures fits { Fits self.entry.now.judged result }
     {
-        // an index below a length has a next one
+        // for the prover: an index below a length has a next one
         let _count = self.problem.packages().len();
         let place = index as u64 + 1;
         Candidate {
@@ -181,7 +181,7 @@ impl<'r, 'p, 't> Instances<'r, 'p, 't> {
             Searches self.old (stop_at i ∷ []) (if result then Some i else None) self.new }
     {
         self.steps.tick();
-        let known = Known {
+        let known = ProposalFacts {
             status: &self.solution.status,
             named: self.named,
             before: self.before,

@@ -19,7 +19,7 @@ use std::marker::Model;
 
 /// The installed packages, among which those are searched that satisfy a clause. Contracts see them.
 #[derive(Drop)]
-struct Installed<'i, 'p, 't> {
+struct InstalledPackages<'i, 'p, 't> {
     index: &'i Index<'p, 't>,
     /// The place of the first of them.
     first: Option<u64>,
@@ -27,7 +27,7 @@ struct Installed<'i, 'p, 't> {
     second: Option<u64>,
 }
 
-impl<'i, 'p, 't> Model for Installed<'i, 'p, 't> {
+impl<'i, 'p, 't> Model for InstalledPackages<'i, 'p, 't> {
     ghost use Rattle.std.specs.Prelude.{◌≡◌, List, true};
     ghost use Rattle.cudf_index.specs.Promises.Members.{other_than};
     ghost use Rattle.cudf_index.specs.Satisfaction.{Placed};
@@ -41,7 +41,7 @@ impl<'i, 'p, 't> Model for Installed<'i, 'p, 't> {
         × (i.second ≡ first_passing (λ _. true) (other_than i.first i.index.now)) };
 }
 
-impl<'i, 'p, 't> Installed<'i, 'p, 't> {
+impl<'i, 'p, 't> InstalledPackages<'i, 'p, 't> {
     /// Those of a status of the problem, by its index.
     fn new(problem: &Problem<'_>, status: &Status, index: &'i Index<'p, 't>) -> Self
         requires { index.now ≡ members (set.contains status.now) problem.now.packages }
@@ -49,7 +49,7 @@ impl<'i, 'p, 't> Installed<'i, 'p, 't> {
     {
         let first = first_held(problem, status, None);
         let second = first_held(problem, status, first);
-        Installed {
+        InstalledPackages {
             index,
             first,
             second,
@@ -191,7 +191,7 @@ impl Needers {
     /// Adds what the package at `needer` needs by these clauses, but for those that the partners don't satisfy.
     fn add_clauses(
         &mut self,
-        installed: &Installed<'_, '_, '_>,
+        installed: &InstalledPackages<'_, '_, '_>,
         partners: &Index<'_, '_>,
         needer: u64,
         depends: Formula<'_>,
@@ -228,7 +228,7 @@ pub(super) fn needers_of(
     requires { index.now ≡ members (set.contains status.now) problem.now.packages }
     ensures { IfOk result (λ needers. (place : ℕ) → set.contains asked.now place ≡ true → kept_needer place needers ≡ needed_by index.now place) }
 {
-    let installed = Installed::new(problem, status, index);
+    let installed = InstalledPackages::new(problem, status, index);
     let partners = Index::build(alloc, problem, asked)?;
     let mut needers = Needers::new(alloc);
     for (before, package) in problem.packages().iter().enumerate() {
@@ -250,7 +250,7 @@ pub(super) fn search_needer(
     requires { index.now ≡ members (set.contains status.now) problem.now.packages }
     ensures { result ≡ needed_by index.now place }
 {
-    let installed = Installed::new(problem, status, index);
+    let installed = InstalledPackages::new(problem, status, index);
     for (before, package) in problem.packages().iter().enumerate() {
         let own = before as u64 + 1;
         if installed.is_needer(status, own, package, place) {

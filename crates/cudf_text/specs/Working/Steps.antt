@@ -3,8 +3,8 @@
 use Rattle.std.specs.Prelude.{ℕ, ◌==◌, true, false, List, [], ◌∷◌, ◌++◌, length, if◌then◌else◌, Option, Some, None}
 use Rattle.cudf_text.specs.declared.fault.Fault.{Fault}
 use Rattle.cudf_text.specs.declared.fault.Kind.TheVariants.{E2, E3}
-use Rattle.cudf_text.specs.declared.cursor.Taken.{Taken}
-use Rattle.cudf_text.specs.declared.cursor.Taken.TheVariants as taken
+use Rattle.cudf_text.specs.declared.cursor.StanzaState.{StanzaState}
+use Rattle.cudf_text.specs.declared.cursor.StanzaState.TheVariants as taken
 use Rattle.cudf_text.specs.Lines.{Class, comment, blank, continuation, named, faulty}
 use Rattle.cudf_text.specs.Working.Tracked.{TrackedValue, TrackedProperty, TrackedStanza}
 
@@ -65,7 +65,7 @@ step s n (named name text) = (with_property s n name text, None)
 step s n faulty = (record { stanzas = s.stanzas; properties = s.properties; last = n }, Some (record { line = n; kind = E2 }))
 
 -- the same, by what the code answers on the line of this number
-abbrev pub stepped : Taken → ℕ → State → State × Option Fault
+abbrev pub stepped : StanzaState → ℕ → State → State × Option Fault
 stepped taken.On n s = (s, None)
 stepped (taken.End line) n s =
     (record { stanzas = record { line = line; last = s.last; properties = s.properties } ∷ []; properties = []; last = s.last }, None)

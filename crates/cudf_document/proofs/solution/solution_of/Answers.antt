@@ -3,7 +3,7 @@ use Rattle.std.proofs.lemmas.List.{take_all}
 use Rattle.cudf_text.specs.Stanzas.{PlainStanza}
 use Rattle.cudf_problem.specs.Promises.Statuses.{installed_stanzas}
 use Rattle.cudf_problem.specs.Promises.Views.{unknown_view}
-use Rattle.cudf_document.specs.Working.Placed.{IsPlaced, IsSolutionOf}
+use Rattle.cudf_document.specs.Working.InstalledFlags.{IsPlaced, IsSolutionOf}
 use Rattle.cudf_problem.proofs.ListLemmas.{map_next-copied}
 use Rattle.cudf_document.proofs.PlacedLemmas.{IsSolutionOf-placed}
 use Rattle.cudf_document.proofs.solution.solution_of.Goals as goal

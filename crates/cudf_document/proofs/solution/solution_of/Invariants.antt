@@ -1,6 +1,6 @@
 use Rattle.std.proofs.Common.{map, take}
 use Rattle.cudf_problem.specs.Promises.Views.{unknown_view}
-use Rattle.cudf_document.specs.Working.Placed.{IsPlaced}
+use Rattle.cudf_document.specs.Working.InstalledFlags.{IsPlaced}
 use Rattle.cudf_document.proofs.solution.solution_of.Given as goal
 
 abbrev pub invariant-loop-stanza : goal.invariant-loop-stanza

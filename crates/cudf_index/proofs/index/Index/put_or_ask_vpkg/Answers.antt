@@ -3,8 +3,8 @@ use Rattle.std.specs.FinSet as set
 use Rattle.cudf_value.specs.Promises.Views.{vpkg_view}
 use Rattle.cudf_index.specs.Satisfaction.{members, meets_alone}
 use Rattle.cudf_index.specs.Working.Gathering.{row_items}
-use Rattle.cudf_index.specs.Working.Wanted.{with_all}
-use Rattle.cudf_index.specs.declared.index.named_trees.Wanted.TheVariants.{Meeting}
+use Rattle.cudf_index.specs.Working.ProvisionTest.{with_all}
+use Rattle.cudf_index.specs.declared.index.named_trees.ProvisionTest.TheVariants.{Meeting}
 use Rattle.cudf_index.proofs.ClauseLemmas.{alone_passes, row_adds}
 use Rattle.cudf_index.proofs.FoundLemmas.{row_found}
 use Rattle.cudf_index.proofs.QuestionLemmas.{adds_asks, question_asks, or_true}

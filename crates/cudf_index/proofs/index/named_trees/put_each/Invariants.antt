@@ -1,5 +1,5 @@
 use Rattle.std.proofs.Common.{◌≡◌, take}
-use Rattle.cudf_index.specs.Working.Wanted.{with_all}
+use Rattle.cudf_index.specs.Working.ProvisionTest.{with_all}
 use Rattle.cudf_index.proofs.index.named_trees.put_each.Given as goal
 
 abbrev pub invariant-loop-provision : goal.invariant-loop-provision

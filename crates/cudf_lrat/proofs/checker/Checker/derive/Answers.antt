@@ -4,12 +4,12 @@ use Rattle.cudf_lrat.specs.Answers.{done, on, with_step}
 use Rattle.cudf_lrat.specs.Lines.{is_empty}
 use Rattle.cudf_lrat.specs.Steps.{Derived, denied, derived, propagate, result_map}
 use Rattle.cudf_lrat.specs.Working.Indices.{indexed, number_at, steps_in}
-use Rattle.cudf_lrat.specs.declared.checker.Kind.{Kind}
+use Rattle.cudf_lrat.specs.declared.checker.ProofFault.{ProofFault}
 use Rattle.cudf_lrat.specs.declared.cnf.Literal.{Literal}
 use Rattle.cudf_lrat.proofs.checker.Checker.derive.Goals as goal
 
 -- a step that was added, with no literals and with some
-module _ (before more : List Derived) (number n : ℕ) (clause literals : List Literal) (indices hints : List ℕ) (at : ℕ → ℕ) (all : Result (List ℕ) Kind) where
+module _ (before more : List Derived) (number n : ℕ) (clause literals : List Literal) (indices hints : List ℕ) (at : ℕ → ℕ) (all : Result (List ℕ) ProofFault) where
   added-empty : literals ≡ clause → indices ≡ hints → more ≡ record { number = number; clause = literals; used = map at (take n indices) } ∷ before → Ok (take n hints) ≡ all → is_empty clause ≡ true
       → done more ≡ with_step before (result_map (λ used. derived number clause (map at used)) all)
   added-empty same which is found none =

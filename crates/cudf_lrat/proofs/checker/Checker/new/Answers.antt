@@ -5,7 +5,7 @@ use Rattle.std.proofs.lemmas.List.Elements.{All-replicate}
 use Rattle.cudf_lrat.proofs.StepsLemmas.{derivation-none}
 use Rattle.cudf_lrat.specs.Lists.{lists_in}
 use Rattle.cudf_lrat.specs.Working.Assignments.{unassigned}
-use Rattle.cudf_lrat.specs.declared.assignment.Assigned.{Assigned}
+use Rattle.cudf_lrat.specs.declared.assignment.AssignedValue.{AssignedValue}
 use Rattle.cudf_lrat.proofs.checker.Checker.new.Goals as goal
 
 pub returns-clause-ready : goal.returns-clause-ready
@@ -15,5 +15,5 @@ returns-clause-ready c =
     record {
       after = derivation-none c.args.cnf.now c.new.result.numbers.items (lists_in c.new.result.clauses) (lists_in c.new.result.used) c.variables.ensures.few c.new.ensures.numbers c.new.ensures.clauses c.new.ensures.used;
       sized = ap length items ∙ length-replicate (c.variables.result + 1) unassigned ∙ ap (λ n. n + 1) c.variables.ensures.variables;
-      fresh = subst (All (λ (m : Assigned). m.step ≤ 0)) (sym items) (All-replicate (λ (m : Assigned). m.step ≤ 0) (c.variables.result + 1) unassigned none);
+      fresh = subst (All (λ (m : AssignedValue). m.step ≤ 0)) (sym items) (All-replicate (λ (m : AssignedValue). m.step ≤ 0) (c.variables.result + 1) unassigned none);
     }

@@ -6,7 +6,7 @@ use Rattle.std.proofs.lemmas.List.{map_push, length-map}
 use Rattle.std.proofs.lemmas.List.Folds.{list_any_at}
 use Rattle.std.proofs.lemmas.List.Sums.{position_or_len_is}
 use Rattle.indexmap.specs.IndexSet.{insert_key}
-use Rattle.cudf_problem.specs.declared.package.Numbered.{Numbered}
+use Rattle.cudf_problem.specs.declared.package.NumberedPair.{NumberedPair}
 use Rattle.cudf_problem.specs.Ids.{Id, is_id, is_among}
 use Rattle.cudf_problem.specs.Promises.Names.{names_of_ids}
 use Rattle.cudf_problem.specs.Working.Numbers.{texts, pair_id, pair_ids, other_index, AreNumbered}
@@ -15,7 +15,7 @@ use Rattle.cudf_problem.proofs.NumberLemmas.{new_id, new_ids, new_numbered, text
 use Rattle.cudf_problem.proofs.package.Ids.insert.Goals as goal
 
 -- the same lists
-moved : (names names' : List (List ℕ)) (pairs pairs' : List Numbered) (firsts firsts' : List ℕ) (other : Numbered → Option ℕ) → names' ≡ names → pairs' ≡ pairs → firsts' ≡ firsts
+moved : (names names' : List (List ℕ)) (pairs pairs' : List NumberedPair) (firsts firsts' : List ℕ) (other : NumberedPair → Option ℕ) → names' ≡ names → pairs' ≡ pairs → firsts' ≡ firsts
     → AreNumbered names pairs firsts other → AreNumbered names' pairs' firsts' other
 moved names names' pairs pairs' firsts firsts' other ns ps fs are =
     subst (λ xs. AreNumbered xs pairs' firsts' other) (sym ns) (subst (λ xs. AreNumbered names xs firsts' other) (sym ps) (subst (λ xs. AreNumbered names pairs xs other) (sym fs) are))
@@ -101,7 +101,7 @@ invariant_of-self-else-is_new c =
     c.reserve.ensures.items c.reserve-2.ensures.items c.self.invariant
 
 -- the pair, by the names that were there
-module _ (keys now : List (Bor (List ℕ))) (name : Bor (List ℕ)) (number version : ℕ) (pairs listed : List Numbered) (ids : List Id) (same : texts now ≡ texts keys) (rooms : listed ≡ pairs)
+module _ (keys now : List (Bor (List ℕ))) (name : Bor (List ℕ)) (number version : ℕ) (pairs listed : List NumberedPair) (ids : List Id) (same : texts now ≡ texts keys) (rooms : listed ≡ pairs)
     (named : texts keys ≡ names_of_ids (pair_ids (texts keys) pairs)) (view : pair_ids (texts keys) pairs ≡ ids) (at : number ≡ position_or_len (λ k. bytes_eq name.now k.now) keys)
     (within : number < length now) where
   ids_same : pair_ids (texts now) listed ≡ ids

@@ -1,6 +1,6 @@
 use Rattle.std.proofs.Common.{arith, ◌≡◌, ◌<◌, ℕ, false, List, ◌∷◌, ◌++◌, [], length, is_some, ap, sym, ◌∙◌, subst, position, None, not, cond, Some, Option}
 use Rattle.indexmap.specs.IndexSet.{insert_key}
-use Rattle.cudf_problem.specs.declared.package.Numbered.{Numbered}
+use Rattle.cudf_problem.specs.declared.package.NumberedPair.{NumberedPair}
 use Rattle.cudf_problem.specs.Ids.{Id, is_id}
 use Rattle.cudf_problem.specs.Promises.Names.{names_of_ids}
 use Rattle.cudf_problem.specs.Working.Numbers.{texts, pair_id, pair_ids, other_index, is_pair, AreNumbered}
@@ -18,7 +18,7 @@ returns-then-is_some-clause-ids c =
     sym (known_kept is_id c.args.self.now id (sym (sym c.if-is_some.true ∙ c.is_some.ensures ∙ ap is_some c.find.ensures ∙ is_some-position (is_id id) c.args.self.now)))
 
 -- a pair that wasn't found isn't there
-unfound : (names : List (List ℕ)) (pairs : List Numbered) (firsts : List ℕ) (other : Numbered → Option ℕ) (are : AreNumbered names pairs firsts other) (ids : List Id) (p : Numbered) (o : Option ℕ)
+unfound : (names : List (List ℕ)) (pairs : List NumberedPair) (firsts : List ℕ) (other : NumberedPair → Option ℕ) (are : AreNumbered names pairs firsts other) (ids : List Id) (p : NumberedPair) (o : Option ℕ)
     → pair_ids names pairs ≡ ids → names ≡ names_of_ids ids → p.name < length names → o ≡ position (is_id (pair_id (names_of_ids ids) p)) ids → is_some o ≡ false → position (is_pair p) pairs ≡ None
 unfound names pairs firsts other are ids p o view named inside found none =
     sym (place_of names pairs firsts other are p inside)

@@ -1,7 +1,7 @@
 use Rattle.std.proofs.Common.{Some, None, ap, sym, ◌∙◌}
 use Rattle.std.proofs.lemmas.Result.{IfOk-equal}
 use Rattle.cudf_index.specs.Working.Gathering.{row_items}
-use Rattle.cudf_index.specs.Working.Wanted.{with_all}
+use Rattle.cudf_index.specs.Working.ProvisionTest.{with_all}
 use Rattle.cudf_index.proofs.FoundLemmas.{row_found}
 use Rattle.cudf_index.proofs.index.named_trees.NamedTrees.all.Goals as goal
 

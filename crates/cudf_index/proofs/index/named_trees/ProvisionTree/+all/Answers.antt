@@ -1,6 +1,6 @@
 use Rattle.std.proofs.Common.{sym, ap, ◌∙◌}
 use Rattle.std.proofs.lemmas.Result.{IfOk-equal}
-use Rattle.cudf_index.specs.Working.Wanted.{some_passes, with_new, with_all}
+use Rattle.cudf_index.specs.Working.ProvisionTest.{some_passes, with_new, with_all}
 use Rattle.cudf_index.proofs.WantedLemmas.{second_wanted, sole_wanted, both_wanted}
 use Rattle.cudf_index.proofs.index.named_trees.ProvisionTree.+all.Goals as goal
 use Rattle.cudf_index.proofs.index.named_trees.ProvisionTree.+all.Goals.{in-Some+in_ok-push_new-in-Some, in-None+in_ok-all-in-None}

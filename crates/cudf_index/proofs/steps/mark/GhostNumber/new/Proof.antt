@@ -1,0 +1,36 @@
+-- The made struct has no field at run time and owns nothing, so its number is free to be 0.
+use Rattle.std.proofs.Common.{[], ◌∷◌, refl}
+use Rattle.std.proofs.raw_atomic.Walks.{proved}
+use mir.Val.{Val, vstruct, vnil}
+use types.Kit.{raw, ◌$◌, ◌∵◌, !, qed, done, keep, join, suffices}
+use types.Run.{enter, no_more, returns}
+use types.Part.{agg}
+use types.ByLocal.{alloc_all, pass_all, free_all, look_at, sets}
+use denote.Shadow.{pure_i}
+use denote.Steps.{nothing}
+use denote.Triple.Entry.{on_entry}
+use denote.Triple.Walked.{says, ends_at}
+use Rattle.cudf_index.specs.declared.steps.mark.GhostNumber.{GhostNumber}
+use Rattle.cudf_index.specs.contracts.steps.mark.GhostNumber as T
+use Rattle.cudf_index.specs.contracts.steps.mark.GhostNumber.new as f
+use Rattle.cudf_index.proofs.steps.mark.GhostNumber.new.Statement.{statement}
+use Rattle.cudf_index.proofs.steps.mark.GhostNumber.new.Code as code
+
+abbrev at_run_time : Val
+at_run_time = vstruct vnil
+
+abbrev made : GhostNumber
+made = record { total = 0 }
+
+pub new_spec : {M : Type 1} → statement M
+new_spec 𝓤 𝓛 𝓜 𝓡 wired =
+    let c = f.clauses 𝓛 𝓜.mem 𝓡.returns in
+    proved 𝓛 f.ended tt c 𝓜 𝓡 tt f.Key.name code.function (code.unfolded 𝓤 𝓛.H 𝓜 𝓡 wired)
+    (λ κs. tt) (λ κs. tt) (λ κs qs bounds a g are.
+    qed 𝓛 (raw (on_entry 𝓛 f.signature κs qs a tt) ∷ raw ((c κs a).requires g) ∷ []) ∵ keep ! [] $
+    enter ! _ _ _ _ _ $ alloc_all ! (λ l. pass_all ! refl tt $
+    sets ! (agg ! (no_more !)) refl (tt, tt) $
+    returns ! (look_at ! 0 refl) $ free_all ! refl $
+    pure_i ! (T.the_row.own_val made (at_run_time ∷ [])) ((λ vss. (tt, tt)), tt) ((tt, (refl, tt)), tt) $
+    suffices ! _ (ends_at 𝓛 f.ended tt c ((κs, qs, bounds, a, tt), g) at_run_time made tt tt) $ says ! refl $
+    nothing ! $ join ! $ nothing ! $ done !))
