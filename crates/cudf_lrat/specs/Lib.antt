@@ -2,7 +2,7 @@ pub mod Literals
 pub mod Lists
 pub mod Kinds
 pub mod Lines
-pub mod ProofSteps
+pub mod Steps
 pub mod Answers
 pub mod Details
 pub mod Laws
