@@ -154,8 +154,8 @@ def contract_at(text, start):
 
 
 def contract_of(crate, name):
-    """The file of a public function that isn't a method, and its signature and clauses."""
-    head = rf"^pub fn {name}\b"
+    """The file of `run`, or of a law in the module `laws`, and its signature and clauses."""
+    head = rf"^{'' if name == ENTRY else '    '}pub fn {name}\b"
     found = [(path, begin.start()) for path in sources(crate) for begin in re.finditer(head, code_of(path), re.M)]
     if len(found) != 1:
         raise Fault(2, f"`pub fn {name}` isn't found once in crates/{crate}/src")

@@ -1,6 +1,9 @@
 //! Checks proposed solutions of a CUDF 2.0 problem: one call, from readers of the documents to the written report of a job.
 #![tactic(auto)]
 
+ghost use Rattle.cudf_check.specs.Promises.Laws.{AddsToInstances, AddsToFaults, AddsToProofs, AddsToReasons};
+ghost use Rattle.cudf_check.specs.RankReport.{EntrantsHaveOwnPlaces};
+ghost use Rattle.cudf_check.specs.JobReport.{IsToldPlainly};
 ghost use Rattle.std.specs.Prelude.{◌≡◌, ℕ, List, IfOk, option_map};
 ghost use Rattle.std.specs.List.{All};
 ghost use Rattle.std.specs.Io.KnownBytes.{Appends};
@@ -13,7 +16,6 @@ ghost use Rattle.cudf_check.specs.Naming.{names_of};
 ghost use Rattle.cudf_check.specs.Runs.{HasRead, Runs};
 
 mod judging;
-pub mod laws;
 mod lines;
 mod naming;
 mod readings;
@@ -110,4 +112,28 @@ fn given<'t, 'n, S: Source>(bytes: &'t [u8], source: &'n S) -> Given<'t, 'n>
         bytes,
         name: source.name(),
     }
+}
+
+/// What follows from the definitions alone.
+pub mod laws {
+    pub use cudf_job::laws::ranking;
+
+    /// Among the solutions of a problem no place occurs twice, as the law [`ranking`] wants it.
+    pub fn own_places()
+        ensures { EntrantsHaveOwnPlaces }
+    {}
+
+    /// Without explanation, and without names of readers, a job has the report in the plain style.
+    pub fn plain()
+        ensures { IsToldPlainly }
+    {}
+
+    /// An explained line is the line without explanation with something added after its text: the line of a violated
+    /// instance, of a fault, of an instance of a refutation, and of a proof's fault.
+    pub fn explained()
+        ensures instances { AddsToInstances }
+        ensures faults { AddsToFaults }
+        ensures reasons { AddsToReasons }
+        ensures proofs { AddsToProofs }
+    {}
 }
