@@ -19,7 +19,7 @@ use crate::declarations::require;
 use crate::fault::{ReadError, fault_on, keep_lesser, mistyped_unless};
 use crate::names::SeenNames;
 use crate::problem::keeping::{NameRoom, Names, Parts};
-use crate::problem::walk::{ProblemState, walk_all};
+use crate::problem::walk::{Ahead, ProblemState, walk_all};
 use cudf_problem::{Mode, Problem, Request};
 use cudf_text::{Fault, Kind, PropertyRef, StanzaRef, Stanzas, Text, lend};
 use cudf_value::{VpkgList, read_vpkglist};
@@ -130,7 +130,12 @@ fn take_lent<'t, 'a>(
     let mut is_first = true;
     for stanza in &text.stanzas {
         lend(stanza, &mut lent)?;
-        walk.take(alloc, parts, is_first, &lent, &required, mode)?;
+        let ahead = Ahead {
+            is_first,
+            required: &required,
+            mode,
+        };
+        walk.take(alloc, parts, &lent, ahead)?;
         require(alloc, &mut required, is_first, &walk.declarations, mode)?;
         is_first = false;
     }

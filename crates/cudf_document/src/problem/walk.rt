@@ -63,7 +63,12 @@ fn take_stanzas<'t>(
             Next::Stanza { line, last } => {
                 stanza.line = line;
                 stanza.last = last;
-                walk.take(alloc, kept, is_first, &stanza, &required, mode)?;
+                let ahead = Ahead {
+                    is_first,
+                    required: &required,
+                    mode,
+                };
+                walk.take(alloc, kept, &stanza, ahead)?;
                 require(alloc, &mut required, is_first, &walk.declarations, mode)?;
                 is_first = false;
             }
@@ -73,6 +78,16 @@ fn take_stanzas<'t>(
             }
         }
     }
+}
+
+/// What is known of a stanza before it is read.
+#[derive(Clone, Copy)]
+pub(crate) struct Ahead<'r, 't> {
+    /// Whether it is the first one.
+    pub(crate) is_first: bool,
+    /// The properties that it needs if it is a package.
+    pub(crate) required: &'r [&'t str],
+    pub(crate) mode: Mode,
 }
 
 /// The first fault of the stanzas so far, and what the faults of later ones rest on.
@@ -125,22 +140,20 @@ impl<'a> ProblemState<'a> {
         &mut self,
         alloc: Global,
         kept: &mut Parts<'a>,
-        is_first: bool,
         stanza: &StanzaRef<'a>,
-        required: &[&str],
-        mode: Mode,
+        ahead: Ahead<'_, '_>,
     ) -> Result<(), AllocError>
         ensures { (keeps : Bool) →
             (before : List PlainStanza) →
-            is_first ≡ is_empty before →
-            texts required.now ≡ required_names mode (declared before) →
-            IsSoFar mode (λ ss. AreParts keeps ss kept.old) self.old before →
-            OnOk result (IsSoFar mode (λ ss. AreParts keeps ss kept.new) self.new (before ++ stanza_view stanza.now ∷ [])) }
+            ahead.entry.is_first ≡ is_empty before →
+            texts ahead.entry.required.now ≡ required_names ahead.entry.mode (declared before) →
+            IsSoFar ahead.entry.mode (λ ss. AreParts keeps ss kept.old) self.old before →
+            OnOk result (IsSoFar ahead.entry.mode (λ ss. AreParts keeps ss kept.new) self.new (before ++ stanza_view stanza.now ∷ [])) }
     {
-        if is_first {
-            return self.take_first(alloc, kept, stanza, mode);
+        if ahead.is_first {
+            return self.take_first(alloc, kept, stanza, ahead.mode);
         }
-        self.take_other(alloc, kept, false, stanza, required, mode)
+        self.take_other(alloc, kept, stanza, ahead)
     }
 
     /// Takes the first stanza, with what it declares.
@@ -167,7 +180,12 @@ impl<'a> ProblemState<'a> {
             kept.pass(stanza);
             self.take_preamble(alloc, stanza, mode)
         } else {
-            self.take_other(alloc, kept, true, stanza, &[], mode)
+            let ahead = Ahead {
+                is_first: true,
+                required: &[],
+                mode,
+            };
+            self.take_other(alloc, kept, stanza, ahead)
         }
     }
 
@@ -202,17 +220,15 @@ impl<'a> ProblemState<'a> {
         &mut self,
         alloc: Global,
         kept: &mut Parts<'a>,
-        is_first: bool,
         stanza: &StanzaRef<'a>,
-        required: &[&str],
-        mode: Mode,
+        ahead: Ahead<'_, '_>,
     ) -> Result<(), AllocError>
         ensures known { (before : List PlainStanza) →
-            is_first ≡ is_empty before →
+            ahead.entry.is_first ≡ is_empty before →
             self.old.declarations ≡ declared before →
-            texts required.now ≡ required_names mode (declared before) →
-            IsKnown mode self.old before →
-            OnOk result (IsKnown mode self.new (before ++ stanza_view stanza.now ∷ [])) }
+            texts ahead.entry.required.now ≡ required_names ahead.entry.mode (declared before) →
+            IsKnown ahead.entry.mode self.old before →
+            OnOk result (IsKnown ahead.entry.mode self.new (before ++ stanza_view stanza.now ∷ [])) }
         ensures declarations { OnOk result (self.new.declarations ≡ self.old.declarations) }
         ensures first { OnOk result (self.new.first ≡ None → self.old.first ≡ None) }
         ensures kept { (keeps : Bool) →
@@ -223,9 +239,9 @@ impl<'a> ProblemState<'a> {
             OnOk result (AreParts keeps (before ++ stanza_view stanza.now ∷ []) kept.new) }
     {
         let mark = postmark_of(stanza);
-        let place = place_fault(is_first, self.requested, mark, stanza.line);
-        let inside = self.judge(alloc, kept, mark, stanza, required)?;
-        let misplaced = misplaced_fault(DocumentKind::Problem, mode, mark, stanza);
+        let place = place_fault(ahead.is_first, self.requested, mark, stanza.line);
+        let inside = self.judge(alloc, kept, mark, stanza, ahead.required)?;
+        let misplaced = misplaced_fault(DocumentKind::Problem, ahead.mode, mark, stanza);
         keep_lesser(&mut self.first, place.or(lesser(inside, misplaced)));
         self.requested = either(is_request(mark), self.requested);
         Ok(())

@@ -8,7 +8,7 @@ use Rattle.cudf_document.proofs.problem.walk.ProblemState.take_other.Goals as go
 
 pub returns-clause-known : goal.returns-clause-known
 returns-clause-known c = λ before first ds required so_far.
-    IsKnown-next c.args.mode (texts c.args.required.now) c.args.self.now _ before (stanza_view c.args.stanza.now) c.postmark_of-mark.result c.args.is_first c.place_fault-place.result c.in_ok-inside.inside c.misplaced_fault-misplaced.result
+    IsKnown-next c.args.ahead.mode (texts c.args.ahead.required.now) c.args.self.now _ before (stanza_view c.args.stanza.now) c.postmark_of-mark.result c.args.ahead.is_first c.place_fault-place.result c.in_ok-inside.inside c.misplaced_fault-misplaced.result
     first ds required so_far c.postmark_of-mark.ensures c.place_fault-place.ensures c.in_ok-inside.ensures.fault c.misplaced_fault-misplaced.ensures
     (c.keep_lesser.ensures ∙ (λ i. lesser (c.in_ok-inside.ensures.first i) ((c.or.ensures ∙ ap (option_or c.place_fault-place.result) c.lesser.ensures) i)))
     c.in_ok-inside.ensures.ids
