@@ -205,12 +205,8 @@ impl<'a> ProblemState<'a> {
     {
         let mut names = SeenNames::new(alloc);
         let fault = read_preamble(alloc, &mut names, &mut self.declarations, head)?;
-        let misplaced = misplaced_fault(
-            DocumentKind::Problem,
-            mode,
-            Some(Postmark::Preamble),
-            head,
-        );
+        let mark = Some(Postmark::Preamble);
+        let misplaced = misplaced_fault(DocumentKind::Problem, mode, mark, head);
         keep_lesser(&mut self.first, lesser(fault, misplaced));
         Ok(())
     }
