@@ -1,6 +1,6 @@
 # make run: proves and builds the program, and checks the example of the README.
 # make library: proves and builds the library for C, in lib/. make linked ARCHIVE=..: the same from what rt lib built before.
-# make test: the gate. make mutants CRATES=..: the mutants of these crates that the gate leaves out. make statement: the files on which the headline rests, with COMMAND=check the definitions that one command needs.
+# make test: the gate. make mutants CRATES=..: all mutants of these crates. make statement: the files on which the headline rests, with COMMAND=check the definitions that one command needs.
 # make install PREFIX=..: copies the program and the library, whichever was built, with the man page, the completions, the
 # pages for users, and the library's callers in other languages; make uninstall takes all of it away.
 # make dist, make deb: packages of program and library, in dist/. What was built from one commit makes the same bytes.
