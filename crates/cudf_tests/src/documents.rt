@@ -2,7 +2,7 @@
 use crate::chain::{Asks, judge};
 use crate::table::{Answer, expect, prints, shows};
 use cudf_document::{Problem, ReadError};
-use cudf_text::{Fault, Kind, Room, TextError, stanzas};
+use cudf_text::{Fault, Kind, Room, TextError, read, stanzas};
 use std::alloc::{AllocError, Global};
 
 #[test]
@@ -42,6 +42,12 @@ fn order_of_faults(rt: HostRuntime) {
     assert!(rt; first < beside && beside < below);
 }
 
+/// Whether a text with a faulty line keeps its source.
+fn is_source_kept(alloc: Global) -> Answer {
+    let text = read(alloc, b"request: r\njunk\n")?;
+    Ok(text.source == "request: r\njunk\n" && text.fault.is_some())
+}
+
 /// A room, and a cursor before the first stanza.
 fn are_cursors_shown(alloc: Global) -> Answer {
     let mut room = Room::new(alloc);
@@ -65,6 +71,7 @@ impl Asks for Debugged {
 
 #[test]
 fn shown(rt: HostRuntime) {
+    expect(&rt, is_source_kept(rt.alloc()));
     expect(&rt, are_cursors_shown(rt.alloc()));
     expect(
         &rt,

@@ -19,6 +19,9 @@ pub(crate) const CHECK: Job = Job::Check {
     explain: false,
 };
 
+/// A check of a problem alone.
+pub(crate) const LINT: Job = Job::Lint { explain: false };
+
 /// A problem and its solution in one input.
 pub(crate) const JOINED: &[u8] =
     b"package: car\nversion: 1\ndepends: wheel > 2\ninstalled: true\n\npackage: wheel\nversion: 2\ninstalled: true\n\nrequest: r\n\npackage: car\nversion: 1\ninstalled: true\n";

@@ -1,6 +1,6 @@
 //! Runs on devices that fail, and on inputs at the limits.
 use crate::devices::{FOREVER, Giver, Refusal, Taker};
-use crate::reports::{CHECK, JOINED};
+use crate::reports::{CHECK, JOINED, LINT};
 use cudf_check::{Mode, Outcome, RunError, run};
 use std::alloc::Global;
 
@@ -64,6 +64,24 @@ fn reads(rt: HostRuntime) {
             );
         }
     }
+}
+
+/// What a job doesn't need is read all the same.
+#[test]
+fn lints_beside_a_solution(rt: HostRuntime) {
+    let mut input = Giver::new(b"request: r\n");
+    let mut others = [Giver::new(JOINED)];
+    let mut out = endless(rt.alloc());
+    let answer = run(
+        rt.alloc(),
+        &LINT,
+        Mode::Lenient,
+        &mut input,
+        &mut others,
+        &mut out,
+    );
+    assert!(rt; answer == Ok(Outcome::Yes), "lint");
+    assert!(rt; others[0].turn == 2, "{} turns", others[0].turn);
 }
 
 /// An input that begins so and repeats its last byte, its length, how many calls are interrupted first, how the run ends,

@@ -129,6 +129,9 @@ impl Asks for Givers {
         Ok(
             MEETING.iter().all(|row| is_counted(&counts, row))
                 && counts.giving("f", Some((Relop::Lt, 3))) == 2
+                && status.holds(4)
+                && !status.holds(5)
+                && !status.holds(u64::MAX)
                 && (counts.differing("a"), counts.differing("f")) == (3, 4),
         )
     }
