@@ -57,6 +57,10 @@ impl<'t> NamedTrees<'t> {
     pub(crate) fn tree(&self, number: usize) -> Option<&ProvisionTree>
         ensures { IfSome result (λ tree. Some tree.now ≡ slice_get self.now.gathered.rows.items number) }
     {
+        // Most names have few provisions, and their row is read next.
+        if self.gathered.row(number).len() <= FEW {
+            return None;
+        }
         let near = self.trees.partition_point(|tree| tree.number < number);
         let found = self.trees.get(near)?;
         if found.number != number {
