@@ -1,9 +1,10 @@
 -- The grammar of the command line: the commands, the words that each takes, and its options.
-use Rattle.std.specs.Prelude.{◌≡◌, [], true, false, codes, Some}
-use Rattle.clap.specs.Words.{App, Rule, app_of, new_app, new_rule, with_rule, with_subcommand}
+use Rattle.std.specs.Prelude.{◌≡◌, List, [], ◌∷◌, true, false, codes, Some}
+use Rattle.clap.specs.Words.{App, Rule, app_of, new_app, new_rule, rule_of, with_rule, with_subcommand}
 use Rattle.clap.specs.Lexer.{usize_max}
 use Rattle.clap.specs.Simple.{new_shape}
 use Rattle.clap.specs.declared.builder.action.ArgAction.TheVariants.{SetTrue}
+use Rattle.clap.specs.declared.builder.arg.Arg.{Arg}
 use Rattle.clap.specs.declared.builder.command.Command.{Command}
 use Rattle.clap.specs.declared.builder.command.Command.TheViews.{out-Command}
 
@@ -59,26 +60,28 @@ explain_flag = record (new_rule (codes "explain")) { long = Some (codes "explain
 abbrev pub filename_flag : Rule
 filename_flag = record (new_rule (codes "with-filename")) { short = Some 72; long = Some (codes "with-filename"); action = Some SetTrue }
 
+-- an app with more rules
+abbrev pub with_rules : App → List Rule → App
+with_rules app [] = app
+with_rules app (rule ∷ rules) = with_rules (with_rule app rule) rules
+
 abbrev pub lint_grammar : App
-lint_grammar = with_rule (with_rule (with_rule (with_rule (new_app (codes "lint")) problem_word) strict_flag) explain_flag) filename_flag
+lint_grammar = with_rules (new_app (codes "lint")) (problem_word ∷ strict_flag ∷ explain_flag ∷ filename_flag ∷ [])
 
 abbrev pub check_grammar : App
-check_grammar =
-    with_rule (with_rule (with_rule (with_rule (with_rule (with_rule (with_rule (new_app (codes "check")) problem_word) solution_word) after_option) limit_option) strict_flag) explain_flag)
-    filename_flag
+check_grammar = with_rules (new_app (codes "check")) (problem_word ∷ solution_word ∷ after_option ∷ limit_option ∷ strict_flag ∷ explain_flag ∷ filename_flag ∷ [])
 
 abbrev pub score_grammar : App
-score_grammar = with_rule (with_rule (with_rule (with_rule (with_rule (new_app (codes "score")) problem_word) solution_word) criteria_option) strict_flag) filename_flag
+score_grammar = with_rules (new_app (codes "score")) (problem_word ∷ solution_word ∷ criteria_option ∷ strict_flag ∷ filename_flag ∷ [])
 
 abbrev pub rank_grammar : App
-rank_grammar = with_rule (with_rule (with_rule (with_rule (with_rule (new_app (codes "rank")) problem_word) solutions_word) needed_criteria) strict_flag) filename_flag
+rank_grammar = with_rules (new_app (codes "rank")) (problem_word ∷ solutions_word ∷ needed_criteria ∷ strict_flag ∷ filename_flag ∷ [])
 
 abbrev pub cnf_grammar : App
-cnf_grammar = with_rule (with_rule (with_rule (with_rule (new_app (codes "cnf")) problem_word) better_option) criteria_option) strict_flag
+cnf_grammar = with_rules (new_app (codes "cnf")) (problem_word ∷ better_option ∷ criteria_option ∷ strict_flag ∷ [])
 
 abbrev pub refute_grammar : App
-refute_grammar =
-    with_rule (with_rule (with_rule (with_rule (with_rule (with_rule (new_app (codes "refute")) problem_word) proof_word) better_option) criteria_option) strict_flag) explain_flag
+refute_grammar = with_rules (new_app (codes "refute")) (problem_word ∷ proof_word ∷ better_option ∷ criteria_option ∷ strict_flag ∷ explain_flag ∷ [])
 
 -- the program has a version, and one of its commands has to be named
 abbrev pub plain_grammar : App
@@ -93,3 +96,7 @@ grammar = with_subcommand (with_subcommand (with_subcommand (with_subcommand (wi
 -- the command is of this grammar, and no argument of it is one of other commands too
 abbrev pub IsOf : App → Command → Type 0
 IsOf app command = (app_of command ≡ app) × ((out-Command command).has_globals ≡ false)
+
+-- the argument has this rule, and isn't one of other commands too
+abbrev pub IsArgument : Arg → Rule → Type 0
+IsArgument argument rule = (rule_of argument ≡ rule) × (argument.global ≡ false)

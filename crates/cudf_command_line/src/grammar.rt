@@ -1,5 +1,9 @@
 //! The commands, their options and the texts of help.
-ghost use Rattle.std.specs.Prelude.{◌≡◌, IfOk, false};
+ghost use Rattle.std.specs.Prelude.{◌≡◌, IfOk, List, false};
+ghost use Rattle.clap.specs.Simple.{App, new_app, with_subcommand};
+ghost use Rattle.clap.specs.Walk.{Rule};
+ghost use Rattle.std.specs.List.{AllZip};
+ghost use Rattle.cudf_command_line.specs.Grammar.{IsArgument, with_rules};
 ghost use Rattle.clap.specs.Words.{rule_of};
 ghost use Rattle.cudf_command_line.specs.Grammar.{problem_word, solution_word, after_option, limit_option, solutions_word, proof_word, better_option, criteria_option, needed_criteria, strict_flag, explain_flag, filename_flag, lint_grammar, check_grammar, score_grammar, rank_grammar, cnf_grammar, refute_grammar, grammar, IsOf};
 
@@ -141,102 +145,124 @@ man cudf_check has more.";
 pub(crate) fn program<'w>(alloc: Global) -> Result<Command<'w>, AllocError>
     ensures { IfOk result (IsOf grammar) }
 {
-    Command::new(alloc, "cudf_check")
+    let program = Command::new(alloc, "cudf_check")
         .about("Checks answers of package solvers to CUDF 2.0 problems")
         .after_help(STATUSES)
         .version(VERSION)
-        .subcommand_required(true)
-        .subcommand(lint_command(alloc)?)?
-        .subcommand(check_command(alloc)?)?
-        .subcommand(score_command(alloc)?)?
-        .subcommand(rank_command(alloc)?)?
-        .subcommand(cnf_command(alloc)?)?
-        .subcommand(refute_command(alloc)?)
+        .subcommand_required(true);
+    let program = with_command(program, lint_command(alloc))?;
+    let program = with_command(program, check_command(alloc))?;
+    let program = with_command(program, score_command(alloc))?;
+    let program = with_command(program, rank_command(alloc))?;
+    let program = with_command(program, cnf_command(alloc))?;
+    with_command(program, refute_command(alloc))
+}
+
+/// The program with one command more. Where both stand in `program`, each `?` there has two values to drop, which is dear to
+/// prove.
+fn with_command<'w>(
+    program: Command<'w>,
+    command: Result<Command<'w>, AllocError>,
+) -> Result<Command<'w>, AllocError>
+    ensures { (app sub : App) → IsOf app program.entry → IfOk command.entry (IsOf sub) → IfOk result (IsOf (with_subcommand app sub.top)) }
+{
+    program.subcommand(command?)
+}
+
+/// A command of this name, with its texts of help and its arguments.
+fn new_command<'w>(
+    alloc: Global,
+    name: &'w str,
+    about: &'w str,
+    lines: &'w str,
+    arguments: Vec<Arg<'w>>,
+) -> Result<Command<'w>, AllocError>
+    ensures { (rules : List Rule) → AllZip IsArgument arguments.entry.items rules → IfOk result (IsOf (with_rules (new_app name.now) rules)) }
+{
+    Command::new(alloc, name)
+        .about(about)
+        .long_about(lines)
+        .after_help(STATUSES)
+        .args(arguments)
 }
 
 fn lint_command<'w>(alloc: Global) -> Result<Command<'w>, AllocError>
     ensures { IfOk result (IsOf lint_grammar) }
 {
-    Command::new(alloc, LINT)
-        .about(ABOUT_LINT)
-        .long_about(ABOUT_LINT_LINES)
-        .after_help(STATUSES)
-        .arg(problem(alloc))?
-        .arg(strict(alloc))?
-        .arg(explain(alloc))?
-        .arg(with_filename(alloc))
+    let arguments = vec![in alloc;
+        problem(alloc),
+        strict(alloc),
+        explain(alloc),
+        with_filename(alloc),
+    ]?;
+    new_command(alloc, LINT, ABOUT_LINT, ABOUT_LINT_LINES, arguments)
 }
 
 fn check_command<'w>(alloc: Global) -> Result<Command<'w>, AllocError>
     ensures { IfOk result (IsOf check_grammar) }
 {
-    Command::new(alloc, CHECK)
-        .about(ABOUT_CHECK)
-        .long_about(ABOUT_CHECK_LINES)
-        .after_help(STATUSES)
-        .arg(problem(alloc))?
-        .arg(solution(alloc))?
-        .arg(after(alloc))?
-        .arg(limit(alloc))?
-        .arg(strict(alloc))?
-        .arg(explain(alloc))?
-        .arg(with_filename(alloc))
+    let arguments = vec![in alloc;
+        problem(alloc),
+        solution(alloc),
+        after(alloc),
+        limit(alloc),
+        strict(alloc),
+        explain(alloc),
+        with_filename(alloc),
+    ]?;
+    new_command(alloc, CHECK, ABOUT_CHECK, ABOUT_CHECK_LINES, arguments)
 }
 
 fn score_command<'w>(alloc: Global) -> Result<Command<'w>, AllocError>
     ensures { IfOk result (IsOf score_grammar) }
 {
-    Command::new(alloc, SCORE)
-        .about(ABOUT_SCORE)
-        .long_about(ABOUT_SCORE_LINES)
-        .after_help(STATUSES)
-        .arg(problem(alloc))?
-        .arg(solution(alloc))?
-        .arg(criteria(alloc))?
-        .arg(strict(alloc))?
-        .arg(with_filename(alloc))
+    let arguments = vec![in alloc;
+        problem(alloc),
+        solution(alloc),
+        criteria(alloc),
+        strict(alloc),
+        with_filename(alloc),
+    ]?;
+    new_command(alloc, SCORE, ABOUT_SCORE, ABOUT_SCORE_LINES, arguments)
 }
 
 fn rank_command<'w>(alloc: Global) -> Result<Command<'w>, AllocError>
     ensures { IfOk result (IsOf rank_grammar) }
 {
-    Command::new(alloc, RANK)
-        .about(ABOUT_RANK)
-        .long_about(ABOUT_RANK_LINES)
-        .after_help(STATUSES)
-        .arg(problem(alloc))?
-        .arg(solutions(alloc))?
-        .arg(needed_criteria(alloc))?
-        .arg(strict(alloc))?
-        .arg(with_filename(alloc))
+    let arguments = vec![in alloc;
+        problem(alloc),
+        solutions(alloc),
+        needed_criteria(alloc),
+        strict(alloc),
+        with_filename(alloc),
+    ]?;
+    new_command(alloc, RANK, ABOUT_RANK, ABOUT_RANK_LINES, arguments)
 }
 
 fn cnf_command<'w>(alloc: Global) -> Result<Command<'w>, AllocError>
     ensures { IfOk result (IsOf cnf_grammar) }
 {
-    Command::new(alloc, CNF)
-        .about(ABOUT_CNF)
-        .long_about(ABOUT_CNF_LINES)
-        .after_help(STATUSES)
-        .arg(problem(alloc))?
-        .arg(better_than(alloc))?
-        .arg(compared(alloc))?
-        .arg(strict(alloc))
+    let arguments = vec![in alloc;
+        problem(alloc),
+        better_than(alloc),
+        compared(alloc),
+        strict(alloc),
+    ]?;
+    new_command(alloc, CNF, ABOUT_CNF, ABOUT_CNF_LINES, arguments)
 }
 
 fn refute_command<'w>(alloc: Global) -> Result<Command<'w>, AllocError>
     ensures { IfOk result (IsOf refute_grammar) }
 {
-    Command::new(alloc, REFUTE)
-        .about(ABOUT_REFUTE)
-        .long_about(ABOUT_REFUTE_LINES)
-        .after_help(STATUSES)
-        .arg(problem(alloc))?
-        .arg(proof(alloc))?
-        .arg(better_than(alloc))?
-        .arg(compared(alloc))?
-        .arg(strict(alloc))?
-        .arg(explain(alloc))
+    let arguments = vec![in alloc;
+        problem(alloc),
+        proof(alloc),
+        better_than(alloc),
+        compared(alloc),
+        strict(alloc),
+        explain(alloc),
+    ]?;
+    new_command(alloc, REFUTE, ABOUT_REFUTE, ABOUT_REFUTE_LINES, arguments)
 }
 
 fn problem<'w>(alloc: Global) -> Arg<'w>
