@@ -9,7 +9,7 @@ ghost use Rattle.cudf_better.specs.Better.{false_dnf, item, true_dnf};
 
 use crate::items::Items;
 use crate::network::put_counter;
-use cudf_cnf::{is_in, is_out};
+use cudf_cnf::{negative_literal, positive_literal};
 use cudf_lrat::{Cnf, Lists, Literal};
 use std::alloc::{AllocError, Global};
 use std::marker::Model;
@@ -23,7 +23,7 @@ fn put_kept(
     ensures { OnOk result (definitions.new ≡ with_clauses definitions.old (map (λ variable. strict.now ++ is_out variable ∷ []) outputs.now)) }
 {
     for variable in outputs {
-        definitions.put_clause(strict, is_out(*variable as u64))?;
+        definitions.put_clause(strict, negative_literal(*variable as u64))?;
     }
     Ok(())
 }
@@ -48,7 +48,7 @@ fn put_bound(
     if most > outputs.len() {
         return Ok(false);
     }
-    let own = is_out(outputs[most - 1] as u64);
+    let own = negative_literal(outputs[most - 1] as u64);
     strict.push(own)?;
     Ok(true)
 }
@@ -151,7 +151,7 @@ impl Definitions {
     {
         self.scratch.clear();
         add_negated(&mut self.scratch, term)?;
-        self.scratch.push(is_in(self.next as u64))?;
+        self.scratch.push(positive_literal(self.next as u64))?;
         self.clauses.push(&self.scratch)
     }
 
@@ -183,7 +183,7 @@ impl Definitions {
     }
 
     /// Ends the next variable's definition: the variable. 4294967295 is given again and again; `into_cnf` then gives `None`.
-    pub(crate) fn end(&mut self) -> u32
+    pub(crate) fn finish_variable(&mut self) -> u32
         ensures variable { result ≡ self.old.next }
         ensures next { self.new ≡ ended self.old }
     {
@@ -213,7 +213,7 @@ impl Definitions {
 }
 
 /// Puts the next variable's definition: it is true where the item is.
-fn put_true(
+fn define_true(
     definitions: &mut Definitions,
     some: &[Literal],
     none: &[Literal],
@@ -240,7 +240,7 @@ fn put_each(definitions: &mut Definitions, literals: &[Literal]) -> Result<(), A
 }
 
 /// Puts the next variable's definition: it is true where the item isn't.
-fn put_false(
+fn define_false(
     definitions: &mut Definitions,
     some: &[Literal],
     none: &[Literal],
@@ -296,10 +296,10 @@ impl Formulas {
         let some = self.items.some(index);
         let none = self.items.none(index);
         if self.is_true {
-            put_true(definitions, some, none)?;
+            define_true(definitions, some, none)?;
             return Ok(());
         }
-        put_false(definitions, some, none)?;
+        define_false(definitions, some, none)?;
         Ok(())
     }
 }

@@ -15,7 +15,7 @@ ghost use Rattle.cudf_better.specs.Working.Sources.{change_at, version_at};
 
 use crate::constraint::{Constraint, Definitions, Formulas, MOST_VARIABLES, put_constraints};
 use crate::items::{Items, add_names, add_recommended, add_touched};
-use cudf_cnf::{all_of, is_in, is_out};
+use cudf_cnf::{all_of, negative_literal, positive_literal};
 use cudf_index::Index;
 use cudf_job::{Aim, Count, Criteria, Sign};
 use cudf_lrat::{Cnf, Literal};
@@ -95,7 +95,7 @@ fn constraint_of(
     }
 }
 
-/// The same of all aims.
+/// For each aim, in their order, the constraint that its count is no worse than in `counts`.
 fn constraints_of(
     alloc: Global,
     source: &ProblemIndexes<'_, '_>,
@@ -113,7 +113,7 @@ fn constraints_of(
 }
 
 /// The clauses, those of the problem first.
-fn better_of(
+fn build_cnf(
     alloc: Global,
     problem: &Problem<'_>,
     rules: &Cnf,
@@ -133,7 +133,7 @@ fn better_of(
     definitions.into_cnf()
 }
 
-/// The clauses of a problem, as [`cudf_cnf::encoded`] gives them, and behind them those that a status compares better than some
+/// The clauses of a problem, as [`cudf_cnf::encode_rules`] gives them, and behind them those that a status compares better than some
 /// counts by the aims: the first variables are the packages, the others are auxiliary. Where some solution compares better
 /// they can be satisfied together (the law `better`, whose premises hold where there are clauses); without aims none does. `None` where there would be more
 /// than 2147483647 variables or 4294967295 clauses (own).
@@ -141,7 +141,7 @@ fn better_of(
 /// # Errors
 ///
 /// `AllocError` where memory for them is refused.
-pub fn encoded(
+pub fn encode_better(
     alloc: Global,
     problem: &Problem<'_>,
     counts: &Criteria,
@@ -150,13 +150,13 @@ pub fn encoded(
     ensures encoded { IfOk result (IsEncoded problem.now counts.now aims.now) }
     ensures distinct { IfOk result (λ made. IfSome made (λ cnf. are_distinct (map package_id problem.now.packages) ≡ true)) }
 {
-    let Some(rules) = cudf_cnf::encoded(alloc, problem)? else {
+    let Some(rules) = cudf_cnf::encode_rules(alloc, problem)? else {
         return Ok(None);
     };
     if problem.packages().len() > MOST_VARIABLES as usize {
         return Ok(None);
     }
-    better_of(alloc, problem, rules.cnf(), counts, aims)
+    build_cnf(alloc, problem, rules.cnf(), counts, aims)
 }
 
 /// A problem, and what is looked up in it.
@@ -195,17 +195,17 @@ impl<'p, 't> ProblemIndexes<'p, 't> {
     }
 
     /// That the package at a place isn't as it was.
-    pub(crate) fn change(&self, place: u64) -> Literal
+    pub(crate) fn change_literal(&self, place: u64) -> Literal
         requires { place < 2 ^ 32 }
         ensures { result ≡ change_at self.now.problem.now place }
     {
         if self.was.holds(place) {
-            return is_out(place);
+            return negative_literal(place);
         }
-        is_in(place)
+        positive_literal(place)
     }
 
-    /// Adds that for each of some places.
+    /// Adds, for each of the places, the literal that its package isn't as it was.
     pub(crate) fn add_changes(
         &self,
         literals: &mut Vec<Literal>,
@@ -215,7 +215,7 @@ impl<'p, 't> ProblemIndexes<'p, 't> {
         ensures { OnOk result (literals.new.items ≡ literals.old.items ++ map (change_at self.now.problem.now) places.now) }
     {
         for place in places {
-            literals.push(self.change(*place))?;
+            literals.push(self.change_literal(*place))?;
         }
         Ok(())
     }

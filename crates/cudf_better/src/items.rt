@@ -8,7 +8,7 @@ ghost use Rattle.cudf_better.specs.Better.{changed_item, has_item, names, all_pa
 ghost use Rattle.cudf_better.specs.Working.Sources.{is_version_at, name_items, version_at, missed_by};
 
 use crate::encoding::ProblemIndexes;
-use cudf_cnf::{add_places, is_in};
+use cudf_cnf::{add_places, positive_literal};
 use cudf_job::Count;
 use cudf_lrat::{Lists, Literal};
 use cudf_value::{Clause, Formula};
@@ -77,7 +77,7 @@ impl Items {
         self.some.get(index)
     }
 
-    /// Those of which none is.
+    /// The literals of an item of which none is true, by the item's index from 0.
     pub(crate) fn none(&self, index: usize) -> &[Literal]
         requires { index < length self.now }
         ensures { result.now ≡ (slice_index_or self.now index (item [] [])).none }
@@ -140,7 +140,7 @@ fn is_of_version(source: &ProblemIndexes<'_, '_>, version: u64, place: u64) -> b
     source.version(place) == version
 }
 
-/// Whether it doesn't.
+/// Whether the package at a place has another version than this one.
 fn is_of_other_version(source: &ProblemIndexes<'_, '_>, version: u64, place: u64) -> bool
     ensures { result ≡ not (is_version_at source.now.problem.now version place) }
 {
@@ -148,14 +148,14 @@ fn is_of_other_version(source: &ProblemIndexes<'_, '_>, version: u64, place: u64
 }
 
 /// Keeps the places whose packages have this version.
-fn keep_version(source: &ProblemIndexes<'_, '_>, version: u64, places: &mut Vec<u64>)
+fn retain_version(source: &ProblemIndexes<'_, '_>, version: u64, places: &mut Vec<u64>)
     ensures { places.new.items ≡ filter (is_version_at source.now.problem.now version) places.old.items }
 {
     places.retain(|place| is_of_version(source, version, *place));
 }
 
-/// Keeps the others.
-fn keep_other_versions(source: &ProblemIndexes<'_, '_>, version: u64, places: &mut Vec<u64>)
+/// Takes out the places whose packages have this version.
+fn retain_other_versions(source: &ProblemIndexes<'_, '_>, version: u64, places: &mut Vec<u64>)
     ensures { places.new.items ≡ filter (λ n. not (is_version_at source.now.problem.now version n)) places.old.items }
 {
     places.retain(|place| is_of_other_version(source, version, *place));
@@ -175,8 +175,8 @@ fn add_outdated(
     let version = latest(source, &places);
     let mut others = Vec::new(alloc);
     source.all.all_named(name, &mut others)?;
-    keep_version(source, version, &mut places);
-    keep_other_versions(source, version, &mut others);
+    retain_version(source, version, &mut places);
+    retain_other_versions(source, version, &mut others);
     if others.is_empty() {
         return Ok(());
     }
@@ -235,12 +235,12 @@ pub(crate) fn add_touched(
     ensures { OnOk result (items.new ≡ items.old ++ map (λ p. item (changes p ∷ []) []) (all_packages source.now.problem.now)) }
 {
     for index in 0..source.problem.packages().len() {
-        items.push(&[source.change(index as u64 + 1)], &[])?;
+        items.push(&[source.change_literal(index as u64 + 1)], &[])?;
     }
     Ok(())
 }
 
-/// Adds the item of a conjunct that the package at a place recommends, unless the package itself would do.
+/// Adds the item of a clause that the package at a place recommends, unless the package itself would do.
 fn add_missed(
     alloc: Global,
     source: &ProblemIndexes<'_, '_>,
@@ -260,10 +260,11 @@ fn add_missed(
     }
     let mut none = Vec::new(alloc);
     add_places(&mut none, &places)?;
-    items.push(&[is_in(place)], &none)
+    items.push(&[positive_literal(place)], &none)
 }
 
-/// Adds those of all conjuncts of a formula.
+/// Adds, for each clause of a formula that the package at a place recommends, the item that it isn't satisfied, unless the
+/// package itself would do.
 fn add_missed_of(
     alloc: Global,
     source: &ProblemIndexes<'_, '_>,
@@ -280,7 +281,7 @@ fn add_missed_of(
     Ok(())
 }
 
-/// Adds those of all packages.
+/// Adds, for each package, the items of the clauses that it recommends.
 pub(crate) fn add_recommended(
     alloc: Global,
     source: &ProblemIndexes<'_, '_>,

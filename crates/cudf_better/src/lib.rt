@@ -9,7 +9,7 @@ mod encoding;
 mod items;
 mod network;
 
-pub use encoding::encoded;
+pub use encoding::encode_better;
 
 /// What follows from the definitions alone.
 pub mod laws {

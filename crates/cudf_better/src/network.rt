@@ -4,7 +4,7 @@ ghost use Rattle.cudf_better.specs.Cardinality.{added, at_least, both_of, compar
 ghost use Rattle.cudf_better.specs.Working.Definitions.{Puts, is_direct, with_terms, at_most, single};
 
 use crate::constraint::{Definitions, Formulas};
-use cudf_cnf::is_in;
+use cudf_cnf::positive_literal;
 use std::alloc::{AllocError, Global};
 
 /// Two lists of at most so many variables are merged by their sums.
@@ -27,12 +27,15 @@ fn put_pair(
         if j == 0 {
             return definitions.put(&[]);
         }
-        return definitions.put(&[is_in(ys[j - 1] as u64)]);
+        return definitions.put(&[positive_literal(ys[j - 1] as u64)]);
     }
     if j == 0 {
-        return definitions.put(&[is_in(xs[i - 1] as u64)]);
+        return definitions.put(&[positive_literal(xs[i - 1] as u64)]);
     }
-    definitions.put(&[is_in(xs[i - 1] as u64), is_in(ys[j - 1] as u64)])
+    definitions.put(&[
+        positive_literal(xs[i - 1] as u64),
+        positive_literal(ys[j - 1] as u64),
+    ])
 }
 
 /// Puts the definition of a sum: so many of two sorted lists are true.
@@ -63,7 +66,7 @@ fn put_added(
     let n = most.min(xs.len() + ys.len());
     for total in 0..n {
         put_sum(definitions, xs, ys, total + 1)?;
-        let variable = definitions.end();
+        let variable = definitions.finish_variable();
         outputs.push(variable)?;
     }
     Ok(outputs)
@@ -80,14 +83,14 @@ fn put_compared(
 {
     let n = xs.len().min(ys.len());
     for i in 0..n {
-        let x = is_in(xs[i] as u64);
-        let y = is_in(ys[i] as u64);
+        let x = positive_literal(xs[i] as u64);
+        let y = positive_literal(ys[i] as u64);
         definitions.put(&[x])?;
         definitions.put(&[y])?;
-        let one = definitions.end();
+        let one = definitions.finish_variable();
         outputs.push(one)?;
         definitions.put(&[x, y])?;
-        let both = definitions.end();
+        let both = definitions.finish_variable();
         outputs.push(both)?;
     }
     let more = &xs[n..];
@@ -114,7 +117,7 @@ fn every_second(alloc: Global, variables: &[u32], from: usize) -> Result<Vec<u32
     Ok(found)
 }
 
-/// Whether two lists are short enough for their sums.
+/// Whether two lists are merged by their sums: at depth 0, or where neither has more than 32 variables.
 fn is_direct(depth: u32, xs: &[u32], ys: &[u32]) -> bool
     ensures { result ≡ is_direct depth xs.now ys.now }
 {
@@ -186,7 +189,7 @@ fn put_one(
 {
     let mut outputs = Vec::new(definitions.alloc());
     formulas.put(definitions, index)?;
-    let variable = definitions.end();
+    let variable = definitions.finish_variable();
     outputs.push(variable)?;
     Ok(outputs)
 }

@@ -6,8 +6,8 @@ use Rattle.std.specs.Str.{IsUtf8}
 use Rattle.cudf_check.specs.JobReport.{report}
 use Rattle.cudf_command_line.specs.Usage.{usage_status}
 use Rattle.cudf_command_line.specs.declared.command.Order.{Order}
-use Rattle.cudf_command_line.specs.declared.usage.Usage.{Usage}
-use Rattle.cudf_command_line.specs.declared.usage.Usage.TheVariants.{Told, Mistake, Refused, Memory}
+use Rattle.cudf_command_line.specs.declared.usage.UsageError.{UsageError}
+use Rattle.cudf_command_line.specs.declared.usage.UsageError.TheVariants.{Told, Mistake, Refused, Memory}
 use Rattle.cudf_device.specs.Outcomes.{Report, outcome_status}
 use Rattle.cudf_device.specs.Readers.{OfOne}
 use Rattle.cudf_device.specs.declared.outcome.Outcome.{Outcome}
@@ -16,20 +16,20 @@ use Rattle.cudf_calls.specs.Calls.{BreaksOff, Does, Explains, IsLong, IsShort, L
 use Rattle.cudf_calls.specs.Working.Fronts.{IsWritten}
 use Rattle.cudf_calls.specs.declared.NamedBytes.{NamedBytes}
 use Rattle.cudf_calls.specs.declared.Word.{Word}
-use Rattle.cudf_calls.specs.declared.front.Front.{Front}
+use Rattle.cudf_calls.specs.declared.front.CallerBuffer.{CallerBuffer}
 use Rattle.cudf_calls.specs.declared.carried.Stop.{Stop}
 use Rattle.cudf_calls.specs.declared.carried.Stop.TheVariants as stops
 use Rattle.cudf_calls.proofs.RoomLemmas.{over-is}
 
 -- words that ask for neither help nor the version
-pub says : (usage : Usage) (call : Left) → ((text : String Global) → usage ≡ Told text → ⊥) → ((usage_status usage ≡ 4) × Explains 4 call) ⊎ BreaksOff 6 call → Says usage call
+pub says : (usage : UsageError) (call : Left) → ((text : String Global) → usage ≡ Told text → ⊥) → ((usage_status usage ≡ 4) × Explains 4 call) ⊎ BreaksOff 6 call → Says usage call
 says (Told text) call other is = absurd (other text refl)
 says (Mistake topic text) call other is = is
 says (Refused topic refusal) call other is = is
 says Memory call other is = is
 
 -- the report was written to a front of the caller's buffer
-pub reports : (answer : Report) (old new : Front) (before after : List ℕ) (told : ℕ) (outcome : Outcome) (status : ℕ) → IsWritten answer old new outcome
+pub reports : (answer : Report) (old new : CallerBuffer) (before after : List ℕ) (told : ℕ) (outcome : Outcome) (status : ℕ) → IsWritten answer old new outcome
     → old.room.now ≡ before → after ≡ new.room.now → told ≡ new.length → status ≡ outcome_status outcome → Reports answer (left before after told status)
 reports answer old new before after told outcome status is was now long tells = inl (record {
   status_is = tells ∙ ap outcome_status is.outcome_is;

@@ -16,7 +16,7 @@ use Rattle.cudf_calls.specs.Calls.{labels, texts_of}
 use Rattle.cudf_calls.specs.Working.Fronts.{front_state, IsUnwritten, IsWritten}
 use Rattle.cudf_calls.specs.Working.Rooms.{over}
 use Rattle.cudf_calls.specs.declared.NamedBytes.{NamedBytes}
-use Rattle.cudf_calls.specs.declared.front.Front.{Front}
+use Rattle.cudf_calls.specs.declared.front.CallerBuffer.{CallerBuffer}
 use Rattle.cudf_calls.specs.declared.carried.Stop.{Stop}
 use Rattle.cudf_calls.specs.declared.carried.Stop.TheVariants.{Memory}
 use Rattle.cudf_calls.proofs.DocumentLemmas.{OfInput, all_whole, are_named}
@@ -25,7 +25,7 @@ use Rattle.cudf_calls.proofs.RoomLemmas.{over-none, taken, untaken}
 -- ---- fronts
 
 -- a front holds what it had taken, and this text after it
-shows : (old new : Front) (text : List ℕ) → old.seen.now.report ≡ [] → new.seen.now.before ≡ old.seen.now.before → new.seen.now.report ≡ text
+shows : (old new : CallerBuffer) (text : List ℕ) → old.seen.now.report ≡ [] → new.seen.now.before ≡ old.seen.now.before → new.seen.now.report ≡ text
     → (new.length ≡ min (length text) 18446744073709551615) × (new.room.now ≡ over old.room.now text)
 shows old new text none before report =
     let was : old.room.now ≡ old.seen.now.before = old.filled.shows ∙ ap (λ r. over old.seen.now.before r) none ∙ over-none old.seen.now.before in (
@@ -33,7 +33,7 @@ shows old new text none before report =
       new.filled.shows ∙ ap (λ r. over new.seen.now.before r) report ∙ ap (λ b. over b text) (before ∙ sym was),
     )
 
-module _ (old new : Front) where
+module _ (old new : CallerBuffer) where
   module _ (text : List ℕ) (grown : Appends (front_state old).contents (front_state new).contents text) where
     pub front_named : new.room.ghost_name ≡ old.room.ghost_name
     front_named = (taken old.room.ghost_name old.seen.now.before old.seen.now.report new.room.ghost_name new.seen.now.before new.seen.now.report text grown).0
@@ -54,7 +54,7 @@ module _ (old new : Front) where
 
 -- ---- runs
 
-module _ (order : Order) (first : NamedBytes) (others : List NamedBytes) (reader : Change SourceState) (readers : List (Change SourceState)) (old new : Front)
+module _ (order : Order) (first : NamedBytes) (others : List NamedBytes) (reader : Change SourceState) (readers : List (Change SourceState)) (old new : CallerBuffer)
     (of_first : OfInput order.names_files first reader) (of_others : AllZip (OfInput order.names_files) others readers) where
   abbrev answer : Report
   answer = report order.job order.mode (labels order.names_files first others) first.text.now (texts_of others)

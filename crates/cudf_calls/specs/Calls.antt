@@ -7,8 +7,8 @@ use Rattle.cudf_check.specs.JobReport.{report}
 use Rattle.cudf_command_line.specs.Orders.{IsAskedFor, IsUnasked}
 use Rattle.cudf_command_line.specs.Usage.{usage_status}
 use Rattle.cudf_command_line.specs.declared.command.Order.{Order}
-use Rattle.cudf_command_line.specs.declared.usage.Usage.{Usage}
-use Rattle.cudf_command_line.specs.declared.usage.Usage.TheVariants.{Told}
+use Rattle.cudf_command_line.specs.declared.usage.UsageError.{UsageError}
+use Rattle.cudf_command_line.specs.declared.usage.UsageError.TheVariants.{Told}
 use Rattle.cudf_device.specs.Outcomes.{outcome_status, Report}
 use Rattle.cudf_device.specs.Readers.{OfOne, most_bytes}
 use Rattle.cudf_calls.specs.declared.NamedBytes.{NamedBytes}
@@ -115,7 +115,7 @@ Does order (first ∷ others) call =
     × Answers (texts_of (first ∷ others)) (report order.job order.mode (labels order.names_files first others) first.text.now (texts_of others)) call)
 
 -- what is told of words that ask for no order: help and the version; a message with status 4; or that memory ran out
-abbrev pub Says : Usage → Left → Type 0
+abbrev pub Says : UsageError → Left → Type 0
 Says (Told text) call = ((call.status ≡ 0) × Shows (string_bytes text) call)
 Says usage call = ((usage_status usage ≡ 4) × Explains 4 call) ⊎ BreaksOff 6 call
 
@@ -123,7 +123,7 @@ Says usage call = ((usage_status usage ≡ 4) × Explains 4 call) ⊎ BreaksOff 
 abbrev pub Follows : List (List ℕ) → List NamedBytes → Left → Type 0
 Follows line documents call =
     ((order : Order) × IsAskedFor line order × Does order documents call)
-    ⊎ ((usage : Usage) × IsUnasked line usage × Says usage call)
+    ⊎ ((usage : UsageError) × IsUnasked line usage × Says usage call)
 
 -- what a call does: what its words ask the program for; they are refused where one isn't UTF-8; or memory ran out before
 abbrev pub Runs : List (List ℕ) → List NamedBytes → Left → Type 0

@@ -5,17 +5,17 @@ ghost use Rattle.std.specs.Str.{IsUtf8};
 ghost use Rattle.cudf_check.specs.JobReport.{report};
 ghost use Rattle.cudf_command_line.specs.Orders.{IsAskedFor, IsUnasked};
 ghost use Rattle.cudf_command_line.specs.declared.command.Order.{Order};
-ghost use Rattle.cudf_command_line.specs.declared.usage.Usage.{Usage};
+ghost use Rattle.cudf_command_line.specs.declared.usage.UsageError.{UsageError};
 ghost use Rattle.cudf_calls.specs.Calls.{Does, Follows, Reports, label, labels, left, names_of, texts_of, BreaksOff, Says, Shows};
 ghost use Rattle.cudf_calls.specs.Working.Documents.{IsNew};
 ghost use Rattle.cudf_calls.specs.Working.Fronts.{IsUnwritten, IsWritten};
 
 use crate::NamedBytes;
 use crate::document::{MemorySource, are_short};
-use crate::front::{Front, GhostFront, copy_front};
+use crate::front::{CallerBuffer, GhostFront, copy_front};
 use cudf_check::{Outcome, RunError, run};
-use cudf_command_line::command::command;
-use cudf_command_line::{Order, Usage};
+use cudf_command_line::command::parse_command_line;
+use cudf_command_line::{Order, UsageError};
 use std::alloc::{AllocError, Global};
 
 /// Does what these words of a command line ask for.
@@ -30,9 +30,9 @@ pub(crate) fn obey(
 
     ensures { Follows (map (λ word. string_bytes word) line.now) documents.now (left room.old room.new length.new result) }
 {
-    match command(alloc, line) {
+    match parse_command_line(alloc, line) {
         Ok(order) => carry_out(alloc, &order, documents, room, length),
-        Err(usage) => explain(alloc, &usage, room, length),
+        Err(usage) => answer_usage(alloc, &usage, room, length),
     }
 }
 
@@ -58,11 +58,11 @@ fn carry_out(
     if !are_short(documents) {
         return refuse(5, length);
     }
-    report(alloc, order, first, others, room, length)
+    write_report(alloc, order, first, others, room, length)
 }
 
 /// The report of an order on documents that aren't too long.
-fn report<'t>(
+fn write_report<'t>(
     alloc: Global,
     order: &Order<'_>,
     first: &NamedBytes<'t>,
@@ -75,7 +75,7 @@ fn report<'t>(
     ensures { Reports (report order.now.job order.now.mode (labels order.now.names_files first.now others.now) first.now.text.now (texts_of others.now)) (left room.old room.new length.new result) }
 {
     let mut seen = GhostFront::of(room);
-    let mut out = Front::new(room, &mut seen);
+    let mut out = CallerBuffer::new(room, &mut seen);
     match write(alloc, order, first, others, &mut out) {
         Ok(outcome) => {
             *length = out.length();
@@ -85,13 +85,14 @@ fn report<'t>(
     }
 }
 
-/// Writes that report.
+/// Writes the report of an order on these documents to `out`, and gives its outcome. `Stop::Memory` where memory is
+/// refused.
 fn write<'t>(
     alloc: Global,
     order: &Order<'_>,
     first: &NamedBytes<'t>,
     others: &[NamedBytes<'t>],
-    out: &mut Front<'_>,
+    out: &mut CallerBuffer<'_>,
 ) -> Result<Outcome, Stop>
     requires report { out.old.seen.now.report ≡ [] }
     requires names { All IsUtf8 (names_of (first.now ∷ others.now)) }
@@ -171,10 +172,15 @@ pub(crate) fn refuse(status: u8, length: &mut usize) -> u8
 }
 
 /// Tells what is told of words that ask for no order.
-pub(crate) fn explain(alloc: Global, usage: &Usage<'_>, room: &mut [u8], length: &mut usize) -> u8
+pub(crate) fn answer_usage(
+    alloc: Global,
+    usage: &UsageError<'_>,
+    room: &mut [u8],
+    length: &mut usize,
+) -> u8
     ensures { Says usage.now (left room.old room.new length.new result) }
 {
-    if let Usage::Told(text) = usage {
+    if let UsageError::Told(text) = usage {
         return show(0, text.as_bytes(), room, length);
     }
     if usage.status() != 4 {

@@ -79,7 +79,7 @@ fn is_short(count: usize) -> bool
     count <= 268_435_456
 }
 
-/// Whether each of the documents is.
+/// Whether each of the documents has at most 268435456 bytes.
 pub(crate) fn are_short(documents: &[NamedBytes<'_>]) -> bool
     ensures { MatchBool result (All IsShort (texts_of documents.now)) (OfOne IsLong (texts_of documents.now)) }
 {
@@ -93,7 +93,7 @@ pub(crate) fn are_short(documents: &[NamedBytes<'_>]) -> bool
 
 /// The words of the command line, the program's name first. The documents are its files: behind `--` all words are files. The
 /// last one stands for the file of `--better-than`, where a word has its name.
-pub(crate) fn line(
+pub(crate) fn command_line(
     alloc: Global,
     words: &[Word<'_>],
     documents: &[NamedBytes<'_>],
@@ -126,7 +126,7 @@ fn names_behind(
 {
     let mut names = Vec::new(alloc);
     add_names(alloc, &mut names, documents)?;
-    if !names_better(words) {
+    if !has_better_than(words) {
         return Ok(names);
     }
     names.truncate(names.len().saturating_sub(1));
@@ -134,7 +134,7 @@ fn names_behind(
 }
 
 /// Whether one of the words names the file of `--better-than`.
-fn names_better(words: &[Word<'_>]) -> bool
+fn has_better_than(words: &[Word<'_>]) -> bool
     ensures { result ≡ list_any (λ word. is_better word.bytes.now) words.now }
 {
     words.iter().any(|word| is_better(word))

@@ -34,7 +34,7 @@ impl GhostFront {
 
 /// A report on its way to a caller's buffer: what fits is written there, and the rest is only counted. No call fails.
 #[derive(Drop)]
-pub(crate) struct Front<'r> {
+pub(crate) struct CallerBuffer<'r> {
     pub(crate) room: &'r mut [u8],
     /// How long the report is so far, or 18446744073709551615 where it is longer.
     pub(crate) length: usize,
@@ -44,11 +44,11 @@ pub(crate) struct Front<'r> {
     ghost filled: { IsFilled room.now length seen.now.before seen.now.report },
 }
 
-impl<'r> Front<'r> {
+impl<'r> CallerBuffer<'r> {
     ghost use Rattle.std.specs.Prelude.{◌≡◌, []};
 
     /// The front of a report of which nothing was written.
-    pub fn new(room: &'r mut [u8], seen: &'r mut GhostFront) -> Front<'r>
+    pub fn new(room: &'r mut [u8], seen: &'r mut GhostFront) -> CallerBuffer<'r>
         requires before { seen.old.before ≡ room.old }
         requires report { seen.old.report ≡ [] }
 
@@ -56,7 +56,7 @@ impl<'r> Front<'r> {
         ensures before { result.room.now ≡ room.old }
         ensures report { result.seen.now.report ≡ [] }
     {
-        Front {
+        CallerBuffer {
             room,
             length: 0,
             last: 0,
@@ -72,7 +72,7 @@ impl<'r> Front<'r> {
     }
 }
 
-impl Sink for Front<'_> {
+impl Sink for CallerBuffer<'_> {
     ghost use Rattle.cudf_calls.specs.Working.Fronts.{front_state};
 
     ghost state = { front_state };

@@ -17,7 +17,7 @@ mod document;
 mod front;
 
 use carried::{Stop, obey, refuse, show};
-use document::line;
+use document::command_line;
 use std::alloc::Global;
 
 /// A word of a caller's.
@@ -49,7 +49,7 @@ pub fn run(
 ) -> u8
     ensures { Runs (map (λ word. word.bytes.now) words.now) documents.now (left room.old room.new length.new result) }
 {
-    match line(alloc, words, documents) {
+    match command_line(alloc, words, documents) {
         Ok(line) => obey(alloc, &line, documents, room, length),
         Err(Stop::Refused) => {
             let message =

@@ -40,7 +40,7 @@ use Rattle.cudf_check.specs.Report.{alone, check_text, core_text, verdict, probl
 use Rattle.cudf_check.specs.Styles.{Style, of_solution, plainly}
 use Rattle.cudf_check.specs.Working.Found.{found_text}
 use Rattle.cudf_check.specs.Working.Named.{instance_style, listed_by, other_names, proof_style}
-use Rattle.cudf_check.specs.declared.naming.Given.{Given}
+use Rattle.cudf_check.specs.declared.naming.NamedInput.{NamedInput}
 use Rattle.cudf_check.specs.Working.Unjudged.{IsFaultOf, faulty_or}
 use Rattle.cudf_check.proofs.PageLemmas.{no-page}
 
@@ -158,9 +158,9 @@ judged_same job explain origins problem solution lines s are = λ k. record {
 }
 
 -- of the others only the first one's text and name count
-pub first_style : (mode : Mode) (explain : Bool) (found : Style → Proposal → List ℕ) (first : Option (List ℕ)) (names : List (Option (List ℕ))) (input : List ℕ) (second : Option Given) (text : Option (List ℕ))
-    → option_map (λ (g : Given). g.bytes.now) second ≡ text → IfSome second (λ g. option_map (λ n. n.now) g.name ≡ name_at names 1)
-    → (let bytes = option_map (λ (g : Given). g.bytes.now) second in let style = inputs_style explain (record { first = first; others = other_names second }) input bytes in inputs_report style mode (found style) input bytes)
+pub first_style : (mode : Mode) (explain : Bool) (found : Style → Proposal → List ℕ) (first : Option (List ℕ)) (names : List (Option (List ℕ))) (input : List ℕ) (second : Option NamedInput) (text : Option (List ℕ))
+    → option_map (λ (g : NamedInput). g.bytes.now) second ≡ text → IfSome second (λ g. option_map (λ n. n.now) g.name ≡ name_at names 1)
+    → (let bytes = option_map (λ (g : NamedInput). g.bytes.now) second in let style = inputs_style explain (record { first = first; others = other_names second }) input bytes in inputs_report style mode (found style) input bytes)
     ≡ (let style = inputs_style explain (record { first = first; others = names }) input text in inputs_report style mode (found style) input text)
 first_style mode explain found first names input None text is same =
     λ k. let style = inputs_style explain (record { first = first; others = names }) input (is k) in inputs_report style mode (found style) input (is k)

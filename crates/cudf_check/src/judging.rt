@@ -16,13 +16,13 @@ ghost use Rattle.cudf_check.specs.BetterReport.{better_report, judged_as};
 ghost use Rattle.cudf_check.specs.Styles.{plainly};
 ghost use Rattle.cudf_check.specs.Working.Bettered.{question_answer, question_view};
 
-use crate::lines::{print_best, print_better, print_faulty_solution, print_ranking};
-use crate::naming::{Given, Others, name_at, own_file};
-use crate::readings::{Unjudged, problem_in, proposed_in};
+use crate::lines::{print_better, print_faulty_solution, print_ranking, refute_better};
+use crate::naming::{NamedInput, OtherInputs, name_at, own_file};
+use crate::readings::{Unjudged, parse_problem, parse_proposed};
 use crate::report::{Document, Setting, print_unread, print_unsound};
 use cudf_device::{Outcome, Paper, Sink, Source};
 use cudf_document::{NameRoom, Problem, ReadError, solution_of};
-use cudf_job::{Entrant, Judgement, ranked as in_order};
+use cudf_job::{Entrant, Judgement, rank_entrants as in_order};
 use cudf_referee::{Aim, Criteria, Referee};
 use cudf_text::Room;
 use std::alloc::{AllocError, Global};
@@ -47,7 +47,7 @@ fn judgement_by(referee: &Referee<'_, '_>) -> Judgement
 }
 
 /// A solution that isn't judged, where it says FAIL.
-fn said_fail(reason: Unjudged) -> Result<Judgement, ReadError>
+fn fail_or_error(reason: Unjudged) -> Result<Judgement, ReadError>
     ensures judged { (mode : Mode) → (problem : PlainProblem) → (bytes : List ℕ) → IsUnjudged mode problem.extra_names bytes reason → IfOk result (IsJudged mode problem bytes) }
     ensures fault { (mode : Mode) → (names : List (List ℕ)) → (bytes : List ℕ) → IsUnjudged mode names bytes reason → IfErr result (IsFaultOf (solution_fault mode names bytes)) }
 {
@@ -68,13 +68,13 @@ pub(crate) fn judge(
 {
     let alloc = setting.alloc;
     let mut room = Room::new(alloc);
-    match proposed_in(setting, bytes, &mut room, problem) {
+    match parse_proposed(setting, bytes, &mut room, problem) {
         Ok(proposed) => {
             let solution = solution_of(alloc, proposed, problem)?;
             let referee = Referee::new(alloc, problem, &solution)?;
             Ok(judgement_by(&referee))
         }
-        Err(reason) => said_fail(reason),
+        Err(reason) => fail_or_error(reason),
     }
 }
 
@@ -175,8 +175,8 @@ pub(crate) fn print_rank_report<S: Source, W: Sink>(
     paper: &mut Paper<'_, W>,
     setting: Setting,
     aims: &[Aim],
-    problem: Given<'_, '_>,
-    solutions: Others<'_, S>,
+    problem: NamedInput<'_, '_>,
+    solutions: OtherInputs<'_, S>,
 ) -> Result<Outcome, AllocError>
     ensures { let style = ranking_style (names_given S.state problem.entry solutions.entry.sources.now) in
         Prints W.state paper.old paper.new (problem_report style setting.mode problem.entry.bytes.now
@@ -184,8 +184,8 @@ pub(crate) fn print_rank_report<S: Source, W: Sink>(
 {
     let mut room = Room::new(setting.alloc);
     let mut names = NameRoom::new(setting.alloc);
-    match problem_in(setting, problem.bytes, &mut room, &mut names) {
-        Ok(problem) => print_judged(paper, setting, aims, &problem, solutions),
+    match parse_problem(setting, problem.bytes, &mut room, &mut names) {
+        Ok(problem) => rank_solutions(paper, setting, aims, &problem, solutions),
         Err(error) => {
             let origin = own_file(problem.name);
             print_unsound(paper, setting, origin, problem.bytes, false, error)
@@ -193,18 +193,18 @@ pub(crate) fn print_rank_report<S: Source, W: Sink>(
     }
 }
 
-/// The same, where this is the problem, and it has no fault.
-fn print_judged<S: Source, W: Sink>(
+/// Judges the solutions of a problem that has no fault, and prints their ranking, or the first fault of one.
+fn rank_solutions<S: Source, W: Sink>(
     paper: &mut Paper<'_, W>,
     setting: Setting,
     aims: &[Aim],
     problem: &Problem<'_>,
-    solutions: Others<'_, S>,
+    solutions: OtherInputs<'_, S>,
 ) -> Result<Outcome, AllocError>
     ensures { (first : Option (List ℕ)) → let style = ranking_style (record { first = first; others = names_in S.state solutions.entry.sources.now }) in
         Prints W.state paper.old paper.new (solutions_report style aims.now setting.mode problem.now (map (λ b. b.items) solutions.entry.texts.now)) result }
 {
-    let Others { texts, sources } = solutions;
+    let OtherInputs { texts, sources } = solutions;
     match judge_each(setting, problem, texts) {
         Ok(entrants) => {
             let outcome = best_outcome(&entrants);
@@ -238,14 +238,14 @@ pub(crate) fn print_better_report<W: Sink>(
 {
     let mut room = Room::new(setting.alloc);
     let mut names = NameRoom::new(setting.alloc);
-    match problem_in(setting, problem, &mut room, &mut names) {
-        Ok(problem) => print_asked(paper, setting, question, &problem, solution),
+    match parse_problem(setting, problem, &mut room, &mut names) {
+        Ok(problem) => judge_for_better(paper, setting, question, &problem, solution),
         Err(error) => print_unsound(paper, setting, None, problem, false, error),
     }
 }
 
-/// The same, where this is the problem, and it has no fault.
-fn print_asked<W: Sink>(
+/// Judges a solution of a problem that has no fault, and answers whether it can be bettered, or prints its first fault.
+fn judge_for_better<W: Sink>(
     paper: &mut Paper<'_, W>,
     setting: Setting,
     question: Question<'_>,
@@ -268,7 +268,7 @@ fn print_asked<W: Sink>(
     }
 }
 
-/// The same, where this was found of the solution, and it has no fault.
+/// Answers whether a solution with this judgement can be bettered, or prints that it is none or says FAIL.
 fn print_judgement<W: Sink>(
     paper: &mut Paper<'_, W>,
     alloc: Global,
@@ -291,7 +291,7 @@ fn print_judgement<W: Sink>(
     }
 }
 
-/// The same of a solution with these counts.
+/// Answers whether a solution with these counts can be bettered: checks the proof, or prints the CNF where there is none.
 fn print_answer<W: Sink>(
     paper: &mut Paper<'_, W>,
     alloc: Global,
@@ -302,7 +302,7 @@ fn print_answer<W: Sink>(
     ensures { Prints W.state paper.old paper.new (question_answer (question_view question.entry) problem.now counts.now) result }
 {
     match question.proof {
-        Some(proof) => print_best(paper, alloc, problem, counts, question.aims, proof),
+        Some(proof) => refute_better(paper, alloc, problem, counts, question.aims, proof),
         None => print_better(paper, alloc, problem, counts, question.aims),
     }
 }

@@ -29,7 +29,7 @@ pub use cudf_document::Mode;
 pub use cudf_job::Job;
 use cudf_lrat::laws::refuted;
 pub use cudf_referee::{Aim, Count, Criteria, Key, Sign, compare, read_criterion};
-use naming::{Given, Others};
+use naming::{NamedInput, OtherInputs};
 use report::{Setting, answer_job};
 use std::alloc::Global;
 
@@ -96,7 +96,7 @@ pub fn run<R: Source, S: Source, W: Sink>(
     let text = read_all(alloc, first)?;
     let texts = read_each(alloc, others)?;
     let setting = Setting { alloc, mode };
-    let others = Others {
+    let others = OtherInputs {
         texts: &texts,
         sources: others,
     };
@@ -104,11 +104,11 @@ pub fn run<R: Source, S: Source, W: Sink>(
 }
 
 /// What a source gave, with its name.
-fn given<'t, 'n, S: Source>(bytes: &'t [u8], source: &'n S) -> Given<'t, 'n>
+fn given<'t, 'n, S: Source>(bytes: &'t [u8], source: &'n S) -> NamedInput<'t, 'n>
     ensures bytes { result.bytes.now ≡ bytes.entry.now }
     ensures name { option_map (λ n. n.now) result.name ≡ (S.state source.entry.now).name }
 {
-    Given {
+    NamedInput {
         bytes,
         name: source.name(),
     }

@@ -11,10 +11,10 @@ mod ranks;
 mod reasons;
 mod scribe;
 
-pub(crate) use better::{print_best, print_better};
+pub(crate) use better::{print_better, refute_better};
 pub(crate) use dimacs::print_cnf;
 pub(crate) use instance::package_at;
-pub(crate) use judged::print_solution;
+pub(crate) use judged::judge_solution;
 pub(crate) use naming::print_faulty;
 pub(crate) use ranks::{print_faulty_solution, print_ranking};
-pub(crate) use reasons::print_proof;
+pub(crate) use reasons::report_refutation;

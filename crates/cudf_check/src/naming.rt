@@ -10,31 +10,31 @@ use cudf_job::Part;
 
 /// The bytes of an input, and its name, where lines name it.
 #[derive(Clone, Copy)]
-pub(crate) struct Given<'t, 'n> {
+pub(crate) struct NamedInput<'t, 'n> {
     pub(crate) bytes: &'t [u8],
     pub(crate) name: Option<&'n str>,
 }
 
 /// The inputs after the first one: their texts, and the sources that gave them.
 #[derive(Drop)]
-pub(crate) struct Others<'t, S> {
+pub(crate) struct OtherInputs<'t, S> {
     pub(crate) texts: &'t [Vec<u8>],
     pub(crate) sources: &'t [S],
 }
 
-impl<'t, S: Source> Others<'t, S> {
+impl<'t, S: Source> OtherInputs<'t, S> {
     ghost use Rattle.std.specs.Prelude.{◌≡◌, IfSome, map, option_map, slice_get};
     ghost use Rattle.cudf_check.specs.JobStyles.{input_at};
     ghost use Rattle.cudf_check.specs.Naming.{name_at};
     ghost use Rattle.cudf_device.specs.Readers.{names_in};
 
     /// The first of them.
-    pub(crate) fn first(&self) -> Option<Given<'t, 't>>
+    pub(crate) fn first(&self) -> Option<NamedInput<'t, 't>>
         ensures bytes { option_map (λ g. g.bytes.now) result ≡ slice_get (map (λ b. b.items) self.now.texts.now) 0 }
         ensures name { IfSome result (λ g. option_map (λ n. n.now) g.name ≡ name_at (names_in S.state self.now.sources.now) 1) }
     {
         match self.texts.first() {
-            Some(bytes) => Some(Given {
+            Some(bytes) => Some(NamedInput {
                 bytes,
                 name: name_at(self.sources, 1),
             }),

@@ -26,7 +26,7 @@ pub(crate) enum Unjudged {
 }
 
 /// Whether a problem has no fault; else its first.
-pub(crate) fn sound_in(setting: Setting, bytes: &[u8]) -> Result<(), ReadError>
+pub(crate) fn check_problem(setting: Setting, bytes: &[u8]) -> Result<(), ReadError>
     ensures sound { OnOk result (problem_fault setting.mode bytes.now ≡ None) }
     ensures fault { IfErr result (IsFaultOf (problem_fault setting.mode bytes.now)) }
 {
@@ -43,7 +43,7 @@ pub(crate) fn sound_in(setting: Setting, bytes: &[u8]) -> Result<(), ReadError>
 }
 
 /// The problem. All of it is kept, and the names of its packages are copied.
-pub(crate) fn problem_in<'t>(
+pub(crate) fn parse_problem<'t>(
     setting: Setting,
     bytes: &'t [u8],
     room: &'t mut Room,
@@ -61,7 +61,7 @@ pub(crate) fn problem_in<'t>(
 }
 
 /// What a solution of the problem proposes.
-pub(crate) fn proposed_in<'t>(
+pub(crate) fn parse_proposed<'t>(
     setting: Setting,
     bytes: &'t [u8],
     room: &'t mut Room,
@@ -89,7 +89,7 @@ pub(crate) fn proposed_in<'t>(
 }
 
 /// Where a solution has the packages of the problem, if that is told: see `stanza_lines`.
-pub(crate) fn lines_in(
+pub(crate) fn parse_stanza_lines(
     alloc: Global,
     is_told: bool,
     bytes: &[u8],

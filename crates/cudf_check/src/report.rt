@@ -19,9 +19,9 @@ ghost use Rattle.cudf_check.specs.Working.Named.{given_names, names_given, origi
 ghost use Rattle.cudf_check.specs.Working.Unjudged.{IsFaultOf, IsUnjudged, faulty_or};
 
 use crate::judging::{Question, print_better_report, print_rank_report};
-use crate::lines::{print_cnf, print_faulty, print_proof, print_solution};
-use crate::naming::{Given, Origin, Origins, Others, file_behind, own_file};
-use crate::readings::{Unjudged, problem_in, proposed_in, sound_in};
+use crate::lines::{judge_solution, print_cnf, print_faulty, report_refutation};
+use crate::naming::{NamedInput, Origin, Origins, OtherInputs, file_behind, own_file};
+use crate::readings::{Unjudged, check_problem, parse_problem, parse_proposed};
 use cudf_device::{Outcome, Paper, ReportBuffer, RunError, Sink, Source};
 use cudf_document::{Detail, Mode, NameRoom, Problem, ReadError, detail, solution_of};
 use cudf_job::Job;
@@ -41,7 +41,7 @@ pub(crate) struct Document<'t, 'n> {
 }
 
 /// What a document says beside its fault, where that is reported.
-fn told<'t>(
+fn document_detail<'t>(
     alloc: Global,
     document: Document<'t, '_>,
     room: &'t mut Room,
@@ -68,7 +68,7 @@ pub(crate) fn print_unread<W: Sink>(
     match error {
         ReadError::Fault(fault) => {
             let mut room = Room::new(alloc);
-            match told(alloc, document, &mut room, fault) {
+            match document_detail(alloc, document, &mut room, fault) {
                 Ok(detail) => {
                     print_faulty(paper, document, fault, detail);
                     Ok(Outcome::Faulty)
@@ -123,7 +123,7 @@ fn print_unjudged<W: Sink>(
 }
 
 /// Judges a solution of a problem.
-fn print_pair<W: Sink>(
+fn judge_pair<W: Sink>(
     paper: &mut Paper<'_, W>,
     setting: Setting,
     job: &Job,
@@ -134,8 +134,8 @@ fn print_pair<W: Sink>(
 {
     let mut room = Room::new(setting.alloc);
     let mut names = NameRoom::new(setting.alloc);
-    match problem_in(setting, inputs.problem, &mut room, &mut names) {
-        Ok(problem) => print_proposed(paper, setting, job, inputs, &problem),
+    match parse_problem(setting, inputs.problem, &mut room, &mut names) {
+        Ok(problem) => judge_proposed(paper, setting, job, inputs, &problem),
         Err(error) => {
             let origin = inputs.origins.problem;
             print_unsound(paper, setting, origin, inputs.problem, explains(job), error)
@@ -143,8 +143,8 @@ fn print_pair<W: Sink>(
     }
 }
 
-/// The same, where this is the problem, and it has no fault.
-fn print_proposed<W: Sink>(
+/// Judges a solution of a problem that has no fault, and prints its report, that it says FAIL, or its first fault.
+fn judge_proposed<W: Sink>(
     paper: &mut Paper<'_, W>,
     setting: Setting,
     job: &Job,
@@ -162,26 +162,26 @@ fn print_proposed<W: Sink>(
         explain: explains(job),
     };
     let mut room = Room::new(alloc);
-    match proposed_in(setting, document.bytes, &mut room, problem) {
+    match parse_proposed(setting, document.bytes, &mut room, problem) {
         Ok(proposed) => {
             let solution = solution_of(alloc, proposed, problem)?;
-            print_solution(paper, alloc, job, inputs, problem, &solution)
+            judge_solution(paper, alloc, job, inputs, problem, &solution)
         }
         Err(reason) => print_unjudged(paper, setting, document, reason),
     }
 }
 
 /// Says that a problem has no fault, or which one is its first.
-fn print_sound<W: Sink>(
+fn lint_problem<W: Sink>(
     paper: &mut Paper<'_, W>,
     setting: Setting,
-    problem: Given<'_, '_>,
+    problem: NamedInput<'_, '_>,
     explain: bool,
 ) -> Result<Outcome, AllocError>
     ensures { Prints W.state paper.old paper.new (faulty_or (document_style explain (own_file (option_map (λ n. n.now) problem.entry.name)) problem.entry.bytes.now) of_problem (codes "problem")
         (problem_fault setting.mode problem.entry.bytes.now) (alone (codes "problem ok") Yes)) result }
 {
-    match sound_in(setting, problem.bytes) {
+    match check_problem(setting, problem.bytes) {
         Ok(()) => {
             paper.text("problem ok\n");
             Ok(Outcome::Yes)
@@ -203,14 +203,14 @@ fn print_encoded<W: Sink>(
 {
     let mut room = Room::new(setting.alloc);
     let mut names = NameRoom::new(setting.alloc);
-    match problem_in(setting, bytes, &mut room, &mut names) {
+    match parse_problem(setting, bytes, &mut room, &mut names) {
         Ok(problem) => print_cnf(paper, setting.alloc, &problem),
         Err(error) => print_unsound(paper, setting, None, bytes, false, error),
     }
 }
 
 /// Checks a proof that a problem has no solution, or says which fault of the problem is the first.
-fn print_refuted<W: Sink>(
+fn refute_problem<W: Sink>(
     paper: &mut Paper<'_, W>,
     setting: Setting,
     bytes: &[u8],
@@ -222,8 +222,8 @@ fn print_refuted<W: Sink>(
 {
     let mut room = Room::new(setting.alloc);
     let mut names = NameRoom::new(setting.alloc);
-    match problem_in(setting, bytes, &mut room, &mut names) {
-        Ok(problem) => print_proof(paper, setting.alloc, &problem, proof, explain),
+    match parse_problem(setting, bytes, &mut room, &mut names) {
+        Ok(problem) => report_refutation(paper, setting.alloc, &problem, proof, explain),
         Err(error) => print_unsound(paper, setting, None, bytes, explain, error),
     }
 }
@@ -237,7 +237,7 @@ pub(crate) struct Inputs<'t> {
 }
 
 /// The problem and its solution: the second input is the solution; where there is none, the first is cut.
-fn parted<'t>(first: Given<'t, 't>, second: Option<Given<'t, 't>>) -> Inputs<'t>
+fn split_inputs<'t>(first: NamedInput<'t, 't>, second: Option<NamedInput<'t, 't>>) -> Inputs<'t>
     ensures { (explain : Bool) → (mode : Mode) → (found : Style → Proposal → List ℕ)
         → (let style = pair_style explain (origins_view result.origins) result.problem.now result.solution.now in
         pair_report style mode (found style) result.problem.now result.solution.now)
@@ -258,7 +258,7 @@ fn parted<'t>(first: Given<'t, 't>, second: Option<Given<'t, 't>>) -> Inputs<'t>
 }
 
 /// The problem and the solution of one input.
-fn cut<'t>(input: Given<'t, 't>) -> Inputs<'t>
+fn cut<'t>(input: NamedInput<'t, 't>) -> Inputs<'t>
     ensures problem { result.problem.now ≡ problem_part input.entry.bytes.now }
     ensures solution { result.solution.now ≡ solution_part input.entry.bytes.now }
     ensures origins { origins_view result.origins ≡ one_file (problem_part input.entry.bytes.now) (given_names input.entry None) }
@@ -280,16 +280,16 @@ fn print_report<S: Source, W: Sink>(
     paper: &mut Paper<'_, W>,
     setting: Setting,
     job: &Job,
-    first: Given<'_, '_>,
-    others: Others<'_, S>,
+    first: NamedInput<'_, '_>,
+    others: OtherInputs<'_, S>,
 ) -> Result<Outcome, AllocError>
     ensures { Prints W.state paper.old paper.new
         (report job.now setting.mode (names_given S.state first.entry others.entry.sources.now) first.entry.bytes.now (map (λ b. b.items) others.entry.texts.now)) result }
 {
     match job {
-        Job::Lint { explain } => print_sound(paper, setting, first, *explain),
+        Job::Lint { explain } => lint_problem(paper, setting, first, *explain),
         Job::Check { .. } | Job::Score { .. } => {
-            print_pair(paper, setting, job, parted(first, others.first()))
+            judge_pair(paper, setting, job, split_inputs(first, others.first()))
         }
         Job::Rank { aims } => print_rank_report(paper, setting, aims, first, others),
         Job::Cnf => print_encoded(paper, setting, first.bytes),
@@ -298,7 +298,7 @@ fn print_report<S: Source, W: Sink>(
             print_better_report(paper, setting, question, first.bytes, others.text(0))
         }
         Job::Refute { explain } => {
-            print_refuted(paper, setting, first.bytes, others.text(0), *explain)
+            refute_problem(paper, setting, first.bytes, others.text(0), *explain)
         }
         Job::RefuteBetter { aims } => {
             let proof = Some(others.text(0));
@@ -312,8 +312,8 @@ fn print_report<S: Source, W: Sink>(
 pub(crate) fn answer_job<S: Source, W: Sink>(
     setting: Setting,
     job: &Job,
-    first: Given<'_, '_>,
-    others: Others<'_, S>,
+    first: NamedInput<'_, '_>,
+    others: OtherInputs<'_, S>,
     out: &mut W,
 ) -> Result<Outcome, RunError>
     ensures { Answers (W.state out.old) (W.state out.new)

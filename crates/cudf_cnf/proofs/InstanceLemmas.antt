@@ -11,8 +11,8 @@ use Rattle.cudf_job.specs.declared.key.Aspect.{Aspect}
 use Rattle.cudf_job.specs.declared.key.Aspect.TheVariants.{Many}
 use Rattle.cudf_job.specs.Keys.{part_place}
 use Rattle.cudf_referee.specs.Instances.{PlainInstance, PlainWhat, upgrade}
-use Rattle.cudf_referee.specs.declared.instance.What.{What}
-use Rattle.cudf_referee.specs.declared.instance.What.TheVariants.{Needs, ConflictsWith, KeepVersion, KeepPackage, KeepFeature, Install, Remove, Upgrade, Unknown}
+use Rattle.cudf_referee.specs.declared.instance.Requirement.{Requirement}
+use Rattle.cudf_referee.specs.declared.instance.Requirement.TheVariants.{Needs, ConflictsWith, KeepVersion, KeepPackage, KeepFeature, Install, Remove, Upgrade, Unknown}
 use Rattle.cudf_referee.specs.Promises.Views.{what_view}
 use Rattle.cudf_referee.specs.Promises.Where.{IsOfPackage, IsWhatWhere, IsWhere}
 use Rattle.cudf_cnf.specs.Cnf.{Keyed, keyed_clauses, upgrade_clauses, what_clauses}
@@ -45,7 +45,7 @@ many_arm problem i v all is aspect every =
     ∙ ap (λ (w : PlainWhat). keyed i.key (what_clauses (enumerate_from 1 problem.packages) (members (is_initial problem) problem.packages) i w)) (sym is)
 
 -- what isn't an entry of `upgrade`
-pub not_many : (w : What) (a : Option Aspect) → ((v : Vpkg) → w ≡ Upgrade v → ⊥) → is_many_what (what_view w) a ≡ false
+pub not_many : (w : Requirement) (a : Option Aspect) → ((v : Vpkg) → w ≡ Upgrade v → ⊥) → is_many_what (what_view w) a ≡ false
 not_many (Needs clause) a h = refl
 not_many (ConflictsWith v) a h = refl
 not_many KeepVersion a h = refl

@@ -15,13 +15,13 @@ ghost use Rattle.cudf_cnf.specs.Working.Parts.{AreBefore, Fits, is_many, is_many
 
 use crate::clauses::{Collector, KeyedClauses};
 use crate::rules::{
-    Scratch, is_in, place_of, put_conflict, put_lower, put_many, put_meeting, put_named, put_needs,
-    put_removal,
+    Scratch, place_of, positive_literal, put_conflict, put_lower, put_many, put_meeting, put_named,
+    put_needs, put_removal,
 };
 use cudf_index::Index;
 use cudf_job::{Aspect, Key};
 use cudf_problem::{Problem, Status};
-use cudf_referee::{Instance, What, greatest_before};
+use cudf_referee::{Instance, Requirement, greatest_before};
 use cudf_value::Vpkg;
 use std::alloc::{AllocError, Global};
 
@@ -108,15 +108,15 @@ impl<'p, 't> Encoder<'p, 't> {
         let all = &self.all;
         let key = instance.key;
         match instance.what {
-            What::Needs(clause) => put_needs(all, key, &clause, scratch, clauses),
-            What::ConflictsWith(vpkg) => put_conflict(all, key, &vpkg, scratch, clauses),
-            What::KeepVersion => clauses.push(key, &[is_in(place_of(key))]),
-            What::KeepPackage => put_named(all, key, instance.subject, scratch, clauses),
-            What::KeepFeature(vpkg) => put_meeting(all, key, &vpkg, scratch, clauses),
-            What::Install(vpkg) => put_meeting(all, key, &vpkg, scratch, clauses),
-            What::Remove(vpkg) => put_removal(all, key, &vpkg, scratch, clauses),
-            What::Upgrade(vpkg) => self.put_upgrade(key, &vpkg, scratch, clauses),
-            What::Unknown => clauses.push(key, &[]),
+            Requirement::Needs(clause) => put_needs(all, key, &clause, scratch, clauses),
+            Requirement::ConflictsWith(vpkg) => put_conflict(all, key, &vpkg, scratch, clauses),
+            Requirement::KeepVersion => clauses.push(key, &[positive_literal(place_of(key))]),
+            Requirement::KeepPackage => put_named(all, key, instance.subject, scratch, clauses),
+            Requirement::KeepFeature(vpkg) => put_meeting(all, key, &vpkg, scratch, clauses),
+            Requirement::Install(vpkg) => put_meeting(all, key, &vpkg, scratch, clauses),
+            Requirement::Remove(vpkg) => put_removal(all, key, &vpkg, scratch, clauses),
+            Requirement::Upgrade(vpkg) => self.put_upgrade(key, &vpkg, scratch, clauses),
+            Requirement::Unknown => clauses.push(key, &[]),
         }
     }
 
@@ -147,7 +147,7 @@ fn many_of<'t>(instance: &Instance<'t>) -> Option<Vpkg<'t>>
     ensures { MatchOption result (is_many (instance_view instance.now) ≡ false)
         (λ v. ((instance_view instance.now).what ≡ upgrade (vpkg_view v)) × ((instance_view instance.now).key.aspect ≡ Some Many)) }
 {
-    let What::Upgrade(vpkg) = instance.what else {
+    let Requirement::Upgrade(vpkg) = instance.what else {
         return None;
     };
     match instance.key.aspect() {

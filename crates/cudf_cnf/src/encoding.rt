@@ -17,7 +17,7 @@ use crate::rules::place_of;
 use cudf_index::{Counts, Index};
 use cudf_job::{Aspect, Key};
 use cudf_problem::Problem;
-use cudf_referee::{Instance, ProblemInstances, What};
+use cudf_referee::{Instance, ProblemInstances, Requirement};
 use cudf_value::{Clause, Relop, Vpkg};
 use std::alloc::{AllocError, Global};
 
@@ -30,7 +30,10 @@ const MANY: usize = 1_048_576;
 /// # Errors
 ///
 /// `AllocError` where memory for them is refused.
-pub fn encoded(alloc: Global, problem: &Problem<'_>) -> Result<Option<KeyedClauses>, AllocError>
+pub fn encode_rules(
+    alloc: Global,
+    problem: &Problem<'_>,
+) -> Result<Option<KeyedClauses>, AllocError>
     ensures { IfOk result (IsEncoded problem.now) }
 {
     if problem.packages().len() > u32::MAX as usize {
@@ -40,23 +43,24 @@ pub fn encoded(alloc: Global, problem: &Problem<'_>) -> Result<Option<KeyedClaus
     encoded_by(alloc, &encoder)
 }
 
-/// The same, by what is known of the problem. Many clauses are counted before all of them are held.
+/// The clauses of the encoder's problem, each with the key of its instance; `None` where there would be more than
+/// 4294967295. Many clauses are counted before all of them are held.
 fn encoded_by(alloc: Global, encoder: &Encoder<'_, '_>) -> Result<Option<KeyedClauses>, AllocError>
     requires small { length encoder.now.problem.now.packages < 2 ^ 32 }
     requires before { AreBefore encoder.now.problem.now encoder.now.before.items }
     ensures { IfOk result (IsEncoded encoder.now.problem.now) }
 {
-    if let Some(clauses) = held(alloc, encoder, MANY)? {
+    if let Some(clauses) = collect_clauses(alloc, encoder, MANY)? {
         return Ok(Some(clauses));
     }
     if has_too_many(alloc, encoder)? {
         return Ok(None);
     }
-    held(alloc, encoder, u32::MAX as usize)
+    collect_clauses(alloc, encoder, u32::MAX as usize)
 }
 
 /// The clauses, if there is room for so many.
-fn held(
+fn collect_clauses(
     alloc: Global,
     encoder: &Encoder<'_, '_>,
     room: usize,
@@ -95,12 +99,12 @@ pub(crate) fn has_too_many(alloc: Global, encoder: &Encoder<'_, '_>) -> Result<b
     ensures { IfOk result (λ is. is ≡ nat_lt 4294967295 (length (cnf encoder.now.problem.now))) }
 {
     let counts = encoder.all.counts(alloc)?;
-    Ok(exceed(encoder, &counts))
+    Ok(exceeds_limit(encoder, &counts))
 }
 
-/// The same, by the counts of all packages.
+/// Whether the encoder's problem has more than 4294967295 clauses, by the counts of all packages.
 #[tactic(auto, using(crate::proofs::CountLemmas::counted_next))]
-fn exceed(encoder: &Encoder<'_, '_>, counts: &Counts<'_, '_, '_>) -> bool
+fn exceeds_limit(encoder: &Encoder<'_, '_>, counts: &Counts<'_, '_, '_>) -> bool
     requires all { counts.now ≡ encoder.now.all }
     requires before { AreBefore encoder.now.problem.now encoder.now.before.items }
     ensures { result ≡ nat_lt 4294967295 (length (cnf encoder.now.problem.now)) }
@@ -126,16 +130,19 @@ fn count_of(encoder: &Encoder<'_, '_>, counts: &Counts<'_, '_, '_>, instance: &I
 {
     let place = place_of(instance.key);
     match instance.what {
-        What::Needs(clause) => count_needs(&encoder.all, &clause, place),
-        What::ConflictsWith(vpkg) => count_others(encoder, counts, &vpkg, place),
-        What::Remove(vpkg) => counts.meeting(&vpkg),
-        What::Upgrade(vpkg) => count_upgrade(encoder, counts, instance.key, &vpkg),
-        What::KeepVersion | What::KeepPackage | What::KeepFeature(_) | What::Install(_) => 1,
-        What::Unknown => 1,
+        Requirement::Needs(clause) => count_needs(&encoder.all, &clause, place),
+        Requirement::ConflictsWith(vpkg) => count_others(encoder, counts, &vpkg, place),
+        Requirement::Remove(vpkg) => counts.meeting(&vpkg),
+        Requirement::Upgrade(vpkg) => count_upgrade(encoder, counts, instance.key, &vpkg),
+        Requirement::KeepVersion
+        | Requirement::KeepPackage
+        | Requirement::KeepFeature(_)
+        | Requirement::Install(_) => 1,
+        Requirement::Unknown => 1,
     }
 }
 
-/// How many clauses a conjunct of `depends` has: none where the package itself would do.
+/// How many CNF clauses a clause of `depends` has: none where the package itself would do.
 fn count_needs(all: &Index<'_, '_>, clause: &Clause<'_>, place: u64) -> u128
     ensures { result ≡ length (needs_clauses all.now place (clause_view clause.now)) }
 {

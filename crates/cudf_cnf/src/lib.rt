@@ -11,8 +11,8 @@ mod rules;
 
 pub use clauses::KeyedClauses;
 pub use encoder::all_of;
-pub use encoding::encoded;
-pub use rules::{add_places, is_in, is_out};
+pub use encoding::encode_rules;
+pub use rules::{add_places, negative_literal, positive_literal};
 
 /// What follows from the definitions alone.
 pub mod laws {

@@ -28,7 +28,7 @@ pub(crate) fn place_of(key: Key) -> u64
     }
 }
 
-/// Puts the clause of a conjunct of `depends`, unless the package itself would do.
+/// Puts the CNF clause of a clause of `depends`, unless the package itself would do.
 pub(crate) fn put_needs(
     all: &Index<'_, '_>,
     key: Key,
@@ -46,7 +46,7 @@ pub(crate) fn put_needs(
         return Ok(());
     }
     scratch.literals.clear();
-    scratch.literals.push(is_out(place))?;
+    scratch.literals.push(negative_literal(place))?;
     put_one_of(clauses, key, &mut scratch.literals, &scratch.places)
 }
 
@@ -175,7 +175,7 @@ impl Scratch {
 }
 
 /// That the package at the place isn't installed.
-pub fn is_out(place: u64) -> Literal
+pub fn negative_literal(place: u64) -> Literal
     requires { place < 2 ^ 32 }
     ensures { result ≡ is_out place }
 {
@@ -186,7 +186,7 @@ pub fn is_out(place: u64) -> Literal
 }
 
 /// That the package at the place is installed.
-pub fn is_in(place: u64) -> Literal
+pub fn positive_literal(place: u64) -> Literal
     requires { place < 2 ^ 32 }
     ensures { result ≡ is_in place }
 {
@@ -206,7 +206,7 @@ pub fn add_places(literals: &mut Vec<Literal>, places: &[u64]) -> Result<(), All
     ensures { OnOk result (literals.new.items ≡ literals.old.items ++ map is_in places.now) }
 {
     for place in places {
-        literals.push(is_in(*place))?;
+        literals.push(positive_literal(*place))?;
     }
     Ok(())
 }
@@ -238,7 +238,7 @@ pub(crate) fn put_each_out(
     ensures places { clauses.new.places ≡ clauses.old.places }
 {
     for place in places {
-        clauses.push(key, &[is_out(*place)])?;
+        clauses.push(key, &[negative_literal(*place)])?;
     }
     Ok(())
 }
@@ -256,7 +256,7 @@ pub(crate) fn put_pairs_out(
     ensures places { clauses.new.places ≡ clauses.old.places }
 {
     for place in places {
-        clauses.push(key, &[is_out(first), is_out(*place)])?;
+        clauses.push(key, &[negative_literal(first), negative_literal(*place)])?;
     }
     Ok(())
 }
@@ -317,14 +317,15 @@ fn put_differing(
     };
     all.all_giving(name, Some((Relop::Neq, number)), places)?;
     if places.contains(&place) {
-        clauses.push(key, &[is_out(place)])?;
+        clauses.push(key, &[negative_literal(place)])?;
         all.all_giving(name, None, places)?;
         return put_later_out(clauses, key, place, places);
     }
     put_later_out(clauses, key, place, places)
 }
 
-/// Puts those of the packages at the places, as long as there is room: whether it was for all.
+/// Puts the clauses of `many` of the packages at the places, as long as there is room. Gives whether there was room for
+/// all.
 fn put_each_differing(
     all: &Index<'_, '_>,
     key: Key,

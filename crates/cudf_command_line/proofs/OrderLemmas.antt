@@ -11,8 +11,8 @@ use Rattle.cudf_command_line.specs.Grammar.{grammar}
 use Rattle.cudf_command_line.specs.Command.{refusal_status}
 use Rattle.cudf_command_line.specs.Orders.{HasFault, IsUnasked, IsUnparsed}
 use Rattle.cudf_command_line.specs.Usage.{kind_status}
-use Rattle.cudf_command_line.specs.declared.usage.Usage.{Usage}
-use Rattle.cudf_command_line.specs.declared.usage.Usage.TheVariants.{Told, Mistake, Refused, Memory}
+use Rattle.cudf_command_line.specs.declared.usage.UsageError.{UsageError}
+use Rattle.cudf_command_line.specs.declared.usage.UsageError.TheVariants.{Told, Mistake, Refused, Memory}
 
 is-simple : is_simple grammar ≡ true
 unfolding clap_on_literals
@@ -44,7 +44,7 @@ of_kind words e status is other (inl memory) = absurd (other (is ∙ ap kind_sta
 of_kind words e status is other (inr among) = (kind_of e, among, is)
 
 -- words in which the parse found a fault ask for no run
-pub unparsed : (words : List (List ℕ)) (e : Error) (usage : Usage) → IsUnparsed words (kind_of e) usage
+pub unparsed : (words : List (List ℕ)) (e : Error) (usage : UsageError) → IsUnparsed words (kind_of e) usage
     → HasKind (fault_of grammar words) e → IsUnasked words usage
 unparsed words e (Told text) h kind = of_kind words e 0 h.status_is (λ is. cc) kind
 unparsed words e (Mistake topic text) h kind = (of_kind words e 4 h.status_is (λ is. cc) kind, h.told_apart)

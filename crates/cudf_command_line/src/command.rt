@@ -9,7 +9,7 @@ use crate::grammar::{
     AFTER, BETTER_THAN, CHECK, CNF, CRITERIA, EXPLAIN, LIMIT, LINT, PROBLEM, PROOF, RANK, REFUTE,
     SCORE, SOLUTION, SOLUTIONS, STRICT, WITH_FILENAME, program,
 };
-use crate::usage::{Refusal, Shown, Topic, Usage, unparsed};
+use crate::usage::{Refusal, Shown, Topic, UsageError, parse_failure};
 use clap::ArgMatches;
 use cudf_job::{Aim, Job, Key, read_criterion};
 use cudf_problem::Mode;
@@ -81,7 +81,10 @@ pub struct Order<'w> {
 }
 
 /// The run that the words ask for. The first word is the program's name.
-pub fn command<'w>(alloc: Global, words: &'w [String]) -> Result<Order<'w>, Usage<'w>>
+pub fn parse_command_line<'w>(
+    alloc: Global,
+    words: &'w [String],
+) -> Result<Order<'w>, UsageError<'w>>
     ensures asks { MatchResult result (IsAskedFor (map (λ word. string_bytes word) words.entry.now)) (IsUnasked (map (λ word. string_bytes word) words.entry.now)) }
     ensures once { IfOk result (λ order. takes_standard_twice order ≡ false) }
 {
@@ -89,9 +92,9 @@ pub fn command<'w>(alloc: Global, words: &'w [String]) -> Result<Order<'w>, Usag
     match program.try_get_matches_from_mut(words) {
         Ok(matches) => match asked_order(alloc, words, &matches) {
             Ok(order) => Ok(order),
-            Err(refusal) => Err(Usage::Refused(Topic::of(arguments(words)), refusal)),
+            Err(refusal) => Err(UsageError::Refused(Topic::of(arguments(words)), refusal)),
         },
-        Err(error) => Err(unparsed(alloc, words, error)?),
+        Err(error) => Err(parse_failure(alloc, words, error)?),
     }
 }
 
@@ -126,7 +129,7 @@ pub(crate) fn arguments(words: &[String]) -> &[String]
 }
 
 /// Whether a list is separate from the `--criteria` of a command that takes one.
-pub(crate) fn takes_list_apart(arguments: &[String]) -> bool
+pub(crate) fn has_separate_list(arguments: &[String]) -> bool
     ensures { result ≡ takes_list_apart (map (λ word. string_bytes word) arguments.now) }
 {
     takes_list(arguments) && has_list_apart(arguments)

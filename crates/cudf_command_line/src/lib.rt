@@ -6,4 +6,4 @@ mod grammar;
 mod usage;
 
 pub use command::{FileName, Order};
-pub use usage::{Refusal, Topic, Usage};
+pub use usage::{Refusal, Topic, UsageError};

@@ -4,7 +4,7 @@ ghost use Rattle.std.specs.Prelude.{◌≡◌, IfOk, map, string_bytes};
 ghost use Rattle.cudf_command_line.specs.Orders.{IsUnparsed, TellsApart};
 ghost use Rattle.cudf_command_line.specs.Usage.{usage_status};
 
-use crate::command::{arguments, takes_list_apart};
+use crate::command::{arguments, has_separate_list};
 use crate::grammar::{CHECK, CNF, LINT, RANK, REFUTE, SCORE, program};
 use clap::error::ErrorKind;
 use std::alloc::{AllocError, Global};
@@ -13,7 +13,7 @@ use std::io::{self, Write};
 
 /// Why the words start no run.
 #[derive(Drop)]
-pub enum Usage<'w> {
+pub enum UsageError<'w> {
     /// Help or the version was asked for; this is its text.
     Told(String),
     /// The words aren't of the grammar; this says why.
@@ -24,7 +24,7 @@ pub enum Usage<'w> {
     Memory,
 }
 
-impl Usage<'_> {
+impl UsageError<'_> {
     ghost use Rattle.std.specs.Prelude.{◌≡◌};
     ghost use Rattle.cudf_command_line.specs.Usage.{usage_status};
 
@@ -33,26 +33,26 @@ impl Usage<'_> {
         ensures { result ≡ usage_status self.now }
     {
         match self {
-            Usage::Told(_) => 0,
-            Usage::Mistake(_, _) => 4,
-            Usage::Refused(_, refusal) => refusal.status(),
-            Usage::Memory => 6,
+            UsageError::Told(_) => 0,
+            UsageError::Mistake(_, _) => 4,
+            UsageError::Refused(_, refusal) => refusal.status(),
+            UsageError::Memory => 6,
         }
     }
 
     /// Says why on standard error. Help and the version are no fault, and aren't reported there.
     pub fn tell<E: Write>(&self, errors: &mut E) -> io::Result<()> {
         match self {
-            Usage::Told(_) => Ok(()),
-            Usage::Mistake(topic, text) => {
+            UsageError::Told(_) => Ok(()),
+            UsageError::Mistake(topic, text) => {
                 write!(errors, "{text}")?;
                 tell_usage(*topic, errors)
             }
-            Usage::Refused(_, Refusal::Memory) | Usage::Memory => writeln!(
+            UsageError::Refused(_, Refusal::Memory) | UsageError::Memory => writeln!(
                 errors,
                 "cudf_check: there is not enough memory; free some, and run again"
             ),
-            Usage::Refused(topic, refusal) => {
+            UsageError::Refused(topic, refusal) => {
                 write!(errors, "error: {refusal}")?;
                 tell_usage(*topic, errors)
             }
@@ -70,18 +70,18 @@ fn tell_usage<E: Write>(topic: Topic, errors: &mut E) -> io::Result<()> {
 }
 
 /// Why the words start no run, where the parse says it.
-pub(crate) fn unparsed<'w>(
+pub(crate) fn parse_failure<'w>(
     alloc: Global,
     words: &[String],
     error: clap::Error,
-) -> Result<Usage<'w>, AllocError>
+) -> Result<UsageError<'w>, AllocError>
     ensures { IfOk result (IsUnparsed (map (λ word. string_bytes word) words.now) (kind_of error)) }
 {
     match error.kind() {
         ErrorKind::DisplayHelp | ErrorKind::DisplayVersion => {
-            Ok(Usage::Told(written(alloc, &error)?))
+            Ok(UsageError::Told(written(alloc, &error)?))
         }
-        ErrorKind::OutOfMemory => Ok(Usage::Memory),
+        ErrorKind::OutOfMemory => Ok(UsageError::Memory),
         _ => fault(alloc, words, arguments(words), &error),
     }
 }
@@ -93,21 +93,24 @@ fn fault<'w>(
     words: &[String],
     arguments: &[String],
     error: &clap::Error,
-) -> Result<Usage<'w>, AllocError>
+) -> Result<UsageError<'w>, AllocError>
     ensures status { IfOk result (λ usage. usage_status usage ≡ 4) }
     ensures apart { IfOk result (TellsApart (map (λ word. string_bytes word) arguments.now)) }
 {
     let topic = Topic::of(arguments);
-    if takes_list_apart(arguments) {
-        return Ok(Usage::Refused(topic, Refusal::Apart));
+    if has_separate_list(arguments) {
+        return Ok(UsageError::Refused(topic, Refusal::Apart));
     }
-    Ok(Usage::Mistake(topic, fault_text(alloc, words, error)?))
+    Ok(UsageError::Mistake(topic, fault_text(alloc, words, error)?))
 }
 
 /// The text of a fault, up to its usage. A first word that is no command may be a file that was to be checked.
 fn fault_text(alloc: Global, words: &[String], error: &clap::Error) -> Result<String, AllocError> {
     let whole = whole_text(alloc, words, error)?;
-    let text = before(before(&whole, "\n\nUsage: "), "\n\nFor more information");
+    let text = text_before(
+        text_before(&whole, "\n\nUsage: "),
+        "\n\nFor more information",
+    );
     match error.kind() {
         ErrorKind::InvalidSubcommand => {
             let usage = Topic::Check.usage();
@@ -140,13 +143,13 @@ fn written(alloc: Global, error: &clap::Error) -> Result<String, AllocError> {
 /// The text of a fault at an argument that no command expects there, with the commands whose option it is. The tip of the
 /// parse to write `--` before an argument is left out.
 fn unexpected_text(alloc: Global, text: &str) -> Result<String, AllocError> {
-    let first = before(text, "\n\n  tip: ");
-    let option = before(after(first, "unexpected argument '"), "' found");
+    let first = text_before(text, "\n\n  tip: ");
+    let option = text_before(text_after(first, "unexpected argument '"), "' found");
     match owners(option) {
         Some(owners) => {
             format!(in alloc; "{first}\n\n  tip: '{option}' is an option of {owners}")
         }
-        None => String::from_str(alloc, before(text, "\n\n  tip: to pass ")),
+        None => String::from_str(alloc, text_before(text, "\n\n  tip: to pass ")),
     }
 }
 
@@ -164,7 +167,7 @@ fn owners(option: &str) -> Option<&'static str> {
 }
 
 /// The text behind a mark, where it has one.
-fn after<'t>(text: &'t str, mark: &str) -> &'t str {
+fn text_after<'t>(text: &'t str, mark: &str) -> &'t str {
     match text.split_once(mark) {
         Some((_, rest)) => rest,
         None => text,
@@ -172,21 +175,21 @@ fn after<'t>(text: &'t str, mark: &str) -> &'t str {
 }
 
 /// The text up to the end that begins so, where it has one.
-fn before<'t>(text: &'t str, end: &str) -> &'t str {
+fn text_before<'t>(text: &'t str, end: &str) -> &'t str {
     match text.split_once(end) {
         Some((front, _)) => front,
         None => text,
     }
 }
 
-impl From<AllocError> for Usage<'_> {
+impl From<AllocError> for UsageError<'_> {
     ghost use Rattle.std.specs.Prelude.{◌≡◌};
-    ghost use Rattle.cudf_command_line.specs.declared.usage.Usage.TheVariants.{Memory};
+    ghost use Rattle.cudf_command_line.specs.declared.usage.UsageError.TheVariants.{Memory};
 
     ghost from_gives = { λ _ usage. usage ≡ Memory };
 
     fn from(_error: AllocError) -> Self {
-        Usage::Memory
+        UsageError::Memory
     }
 }
 

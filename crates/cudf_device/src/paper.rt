@@ -132,7 +132,7 @@ impl ReportBuffer {
         Ok(ReportBuffer { waiting })
     }
 
-    /// Puts `text` after what waits, where there is room for it.
+    /// Appends `text` and returns `true` if there is room for it; otherwise returns `false`.
     #[inline(always)]
     pub(crate) fn add(&mut self, text: &[u8]) -> bool
         ensures { self.new ≡ (if result then self.old ++ text.now else self.old) }
@@ -151,7 +151,7 @@ impl ReportBuffer {
         &self.waiting
     }
 
-    /// Lets go of all that waits.
+    /// Empties the buffer.
     pub(crate) fn clear(&mut self)
         ensures { self.new ≡ [] }
     {

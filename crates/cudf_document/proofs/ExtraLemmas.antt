@@ -13,11 +13,11 @@ use Rattle.cudf_problem.specs.declared.problem.Postmark.{Postmark}
 use Rattle.cudf_problem.specs.declared.problem.Postmark.TheVariants.{Package}
 use Rattle.cudf_problem.specs.Documents.{is_empty, marks}
 use Rattle.cudf_problem.specs.Preamble.{reserved_names, declared, declared_names}
-use Rattle.cudf_document.specs.declared.proposed.package.Extras.{Extras}
+use Rattle.cudf_document.specs.declared.proposed.package.DeclaredNames.{DeclaredNames}
 use Rattle.cudf_document.specs.Faults.{least, fault_if}
 use Rattle.cudf_document.specs.SolutionFaults.{undeclared_in_solution}
 use Rattle.cudf_document.specs.Working.Enums.{AreWords}
-use Rattle.cudf_document.specs.Working.Extras.{is_extra, AreExtras, is_known_name, names_with}
+use Rattle.cudf_document.specs.Working.DeclaredNames.{is_extra, AreExtras, is_known_name, names_with}
 use Rattle.cudf_document.specs.Working.Judging.{is_declared}
 use Rattle.cudf_problem.proofs.ListLemmas.{list_any-map}
 use Rattle.cudf_document.proofs.NameLemmas.{bytes_eq-sym}
@@ -47,7 +47,7 @@ none_seen (x ∷ seen) = after (length seen)
     after n = grind (arith, nat_tests)
 
 -- a later one declares nothing
-pub Extras-later : (mode : Mode) (names : List (List ℕ)) (seen : List PlainStanza) (s : PlainStanza) (e : Extras)
+pub Extras-later : (mode : Mode) (names : List (List ℕ)) (seen : List PlainStanza) (s : PlainStanza) (e : DeclaredNames)
     → is_empty seen ≡ false → AreExtras mode names seen e → AreExtras mode names (seen ++ s ∷ []) e
 Extras-later mode names seen s e later are = record {
   mode_is = are.mode_is;
@@ -56,7 +56,7 @@ Extras-later mode names seen s e later are = record {
 }
 
 -- leniently nothing is kept
-pub Extras-lenient : (mode : Mode) (names : List (List ℕ)) (seen : List PlainStanza) (s : PlainStanza) (e : Extras)
+pub Extras-lenient : (mode : Mode) (names : List (List ℕ)) (seen : List PlainStanza) (s : PlainStanza) (e : DeclaredNames)
     → e.mode ≡ Lenient → AreExtras mode names seen e → AreExtras mode names (seen ++ s ∷ []) e
 Extras-lenient mode names seen s e lenient are = record {
   mode_is = are.mode_is;
@@ -65,7 +65,7 @@ Extras-lenient mode names seen s e lenient are = record {
 }
 
 -- strictly the first one does
-pub Extras-first : (mode : Mode) (names : List (List ℕ)) (seen : List PlainStanza) (s : PlainStanza) (old : Extras) (own : List PlainDeclaration)
+pub Extras-first : (mode : Mode) (names : List (List ℕ)) (seen : List PlainStanza) (s : PlainStanza) (old : DeclaredNames) (own : List PlainDeclaration)
     → is_empty seen ≡ true → own ≡ declared (s ∷ []) → AreExtras mode names seen old
     → AreExtras mode names (seen ++ s ∷ []) (record { mode = old.mode; of_problem = old.of_problem; own = own })
 Extras-first mode names seen s old own first own_is are = record {
@@ -81,7 +81,7 @@ or_assoc true b c = refl
 or_assoc false b c = refl
 
 -- what is known is what is declared
-extra_known : (mode : Mode) (names : List (List ℕ)) (seen : List PlainStanza) (e : Extras) → AreExtras mode names seen e → mode ≡ Strict
+extra_known : (mode : Mode) (names : List (List ℕ)) (seen : List PlainStanza) (e : DeclaredNames) → AreExtras mode names seen e → mode ≡ Strict
     → (name : List ℕ) → is_extra e name ≡ is_known_name (names_with names seen) name
 extra_known mode names seen e are strict name =
     or_assoc (list_any (bytes_eq name) reserved_names) (list_any (bytes_eq name) e.of_problem) (is_declared e.own name)
@@ -91,14 +91,14 @@ extra_known mode names seen e are strict name =
     own : is_declared e.own name ≡ list_any (bytes_eq name) (declared_names seen)
     own = ap (λ ds. is_declared ds name) (are.own_are strict) ∙ sym (list_any-map (λ d. d.name) (bytes_eq name) (declared seen))
 
-pub strictly_undeclared : (mode : Mode) (names : List (List ℕ)) (seen : List PlainStanza) (e : Extras) (ps : List PlainProperty) → AreExtras mode names seen e → e.mode ≡ Strict
+pub strictly_undeclared : (mode : Mode) (names : List (List ℕ)) (seen : List PlainStanza) (e : DeclaredNames) (ps : List PlainProperty) → AreExtras mode names seen e → e.mode ≡ Strict
     → least (flat_map (λ p. fault_if (not (is_extra e p.name)) p.line E8) ps) ≡ least (undeclared_in_solution mode (names_with names seen) (Some Package) ps)
 strictly_undeclared mode names seen e ps are is =
     let strict : mode ≡ Strict = sym are.mode_is ∙ is in
     (λ i. least (flat_map (λ p. fault_if (not (extra_known mode names seen e are strict p.name i)) p.line E8) ps))
     ∙ ap (λ m. least (undeclared_in_solution m (names_with names seen) (Some Package) ps)) (sym strict)
 
-pub leniently_undeclared : (mode : Mode) (names : List (List ℕ)) (seen : List PlainStanza) (e : Extras) (ps : List PlainProperty) → AreExtras mode names seen e → e.mode ≡ Lenient
+pub leniently_undeclared : (mode : Mode) (names : List (List ℕ)) (seen : List PlainStanza) (e : DeclaredNames) (ps : List PlainProperty) → AreExtras mode names seen e → e.mode ≡ Lenient
     → None ≡ least (undeclared_in_solution mode (names_with names seen) (Some Package) ps)
 leniently_undeclared mode names seen e ps are is =
     ap (λ m. least (undeclared_in_solution m (names_with names seen) (Some Package) ps)) (sym is ∙ are.mode_is)

@@ -24,7 +24,7 @@ use Rattle.cudf_document.specs.ProblemFaults.{types_in, declares, repeats, prope
 use Rattle.cudf_document.specs.SolutionFaults.{solution_types, value_faults, values_faults, undeclared_in_solution, solution_misplaces, solution_stanza_faults}
 use Rattle.cudf_document.specs.Promises.Laws.{IsFoundAt, AllAreFound, FaultsAreFound}
 use Rattle.cudf_document.specs.Working.Judging.{is_mistyped, line_of, lacks_one, version_property}
-use Rattle.cudf_document.specs.Working.Extras.{is_known_name}
+use Rattle.cudf_document.specs.Working.DeclaredNames.{is_known_name}
 use Rattle.cudf_document.proofs.FoundLemmas.{Within, IsOrdered, IsFound, stanzas_found, properties_found}
 
 -- the line is one of a stanza's

@@ -19,7 +19,7 @@ use Rattle.cudf_value.specs.Parts.{look_up}
 use Rattle.cudf_document.specs.ProblemFaults.{types_in, declares, property_faults, place_faults, repeated_package_faults, unversioned_faults, required_names, missing_faults, problem_misplaces, misplaced_faults, inner_faults, stanza_faults, problem_faults}
 use Rattle.cudf_document.specs.SolutionFaults.{solution_types, value_faults, values_faults, undeclared_in_solution, solution_misplaces, solution_stanza_faults, repeated_pairs_faults, solution_faults}
 use Rattle.cudf_document.specs.Promises.Laws.{is_strict_of_problem, is_strict_of_solution, is_strict, StrictAdds, StrictAddsSomeKinds}
-use Rattle.cudf_document.specs.Working.Extras.{is_known_name, names_with}
+use Rattle.cudf_document.specs.Working.DeclaredNames.{is_known_name, names_with}
 use Rattle.cudf_document.proofs.LawLemmas.{head_or_after, none_in_nil, at_head}
 
 -- ---- faults of some kinds besides

@@ -4,7 +4,7 @@ use Rattle.std.proofs.lemmas.Bool.{true≢false}
 use Rattle.cudf_text.specs.Stanzas.{PlainStanza, PlainText}
 use Rattle.cudf_value.specs.Declarations.{PlainDeclaration}
 use Rattle.cudf_problem.specs.declared.problem.Mode.{Mode}
-use Rattle.cudf_document.specs.declared.problem.keeping.Parts.{Parts}
+use Rattle.cudf_document.specs.declared.problem.keeping.ProblemBuilder.{ProblemBuilder}
 use Rattle.cudf_document.specs.declared.problem.walk.ProblemState.{ProblemState}
 use Rattle.cudf_problem.specs.declared.problem.Postmark.{Postmark}
 use Rattle.cudf_problem.specs.declared.problem.Postmark.TheVariants.{Preamble, Package, Request}
@@ -36,7 +36,7 @@ gathered ds request before s mark marked ds_are request_is =
     (record { declared_are = ds_are; ids_are = λ id. refl; packages_are = refl; request_is = request_is })
     mark (is_empty before) marked refl
 
-pub package_kept : (keeps : Bool) (ds : List PlainDeclaration) (before : List PlainStanza) (s : PlainStanza) (id : Option Id) (old new : Parts)
+pub package_kept : (keeps : Bool) (ds : List PlainDeclaration) (before : List PlainStanza) (s : PlainStanza) (id : Option Id) (old new : ProblemBuilder)
     → postmark s ≡ Some Package → ds ≡ declared before → id ≡ id_under (Some Package) s.properties → AreParts keeps before old
     → new.keeps ≡ old.keeps
     → (old.keeps ≡ true → map package_view new.packages.items ≡ map package_view old.packages.items ++ option_to_list (option_map (package_from s.line (package_fields_of ds s.properties)) id))
@@ -49,7 +49,7 @@ package_kept keeps ds before s id old new marked ds_are id_is was same packages 
       request_is = ap (option_map request_view) request ∙ next.request_is;
     }
 
-pub request_kept : (keeps : Bool) (before : List PlainStanza) (s : PlainStanza) (old new : Parts) → postmark s ≡ Some Request → AreParts keeps before old
+pub request_kept : (keeps : Bool) (before : List PlainStanza) (s : PlainStanza) (old new : ProblemBuilder) → postmark s ≡ Some Request → AreParts keeps before old
     → new.keeps ≡ old.keeps
     → option_map request_view new.request ≡ (if is_some (option_map request_view old.request) then option_map request_view old.request else Some (request_of s))
     → new.packages ≡ old.packages → AreParts keeps (before ++ s ∷ []) new
@@ -60,7 +60,7 @@ request_kept keeps before s old new marked was same request packages =
       request_is = request ∙ next.request_is;
     }
 
-pub passed : (keeps : Bool) (before : List PlainStanza) (s : PlainStanza) (p : Parts)
+pub passed : (keeps : Bool) (before : List PlainStanza) (s : PlainStanza) (p : ProblemBuilder)
     → is_package s ≡ false → is_request s ≡ false → AreParts keeps before p → AreParts keeps (before ++ s ∷ []) p
 passed keeps before s p no_package no_request was = by (postmark s) refl
   where
@@ -79,7 +79,7 @@ passed keeps before s p no_package no_request was = by (postmark s) refl
 pub faultless : (mode : Mode) (IsKept : List PlainStanza → Type 0) (w : ProblemState) (text : PlainText) → IsWhole mode IsKept w text → w.first ≡ None → problem_faults text mode ≡ []
 faultless mode IsKept w text whole none = least-none (problem_faults text mode) (sym whole.first_is ∙ none)
 
-module _ (p : Parts) (w : ProblemState) (text : PlainText) (mode : Mode) (whole : IsWhole mode (λ ss. AreParts true ss p) w text) where
+module _ (p : ProblemBuilder) (w : ProblemState) (text : PlainText) (mode : Mode) (whole : IsWhole mode (λ ss. AreParts true ss p) w text) where
   requested : w.first ≡ None → is_some (gathered_of w p).request ≡ true
   requested none =
       ap is_some (whole.kept none).request_is ∙ is_some-option_map request_of (find is_request text.stanzas) ∙ is_some-find is_request text.stanzas

@@ -13,7 +13,7 @@ use Rattle.cudf_problem.specs.Promises.Statuses.{installed_with, installed_of, i
 use Rattle.cudf_problem.specs.Promises.Views.{unknown_view}
 use Rattle.cudf_document.specs.SolutionFaults.{solution_stanza_faults, repeated_pairs_faults, solution_faults}
 use Rattle.cudf_problem.specs.Statuses.{installed_id}
-use Rattle.cudf_document.specs.Working.Extras.{AreExtras, names_with}
+use Rattle.cudf_document.specs.Working.DeclaredNames.{AreExtras, names_with}
 use Rattle.cudf_document.specs.Working.Pairs.{ArePairs}
 use Rattle.cudf_document.specs.Working.InstalledFlags.{pair_of}
 use Rattle.cudf_document.specs.Working.Proposed.{IsRead, GoesOn}

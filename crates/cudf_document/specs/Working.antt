@@ -1,6 +1,6 @@
 pub mod Details
 pub mod Enums
-pub mod Extras
+pub mod DeclaredNames
 pub mod Identities
 pub mod Kept
 pub mod Misplaced

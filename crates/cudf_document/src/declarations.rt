@@ -134,7 +134,7 @@ impl<'t> Declarations<'t> {
         }
     }
 
-    /// The names of those that have no default.
+    /// The names of the declarations without a default, in order.
     fn without_default(&self, alloc: Global) -> Result<Vec<&'t str>, AllocError>
         ensures { IfOk result (λ names.
             map (λ name. name.now) names.items ≡ filter_map name_without_default self.now) }
@@ -466,7 +466,7 @@ fn fault_unless(is_well: bool, line: u64, kind: Kind) -> Option<Fault>
     }
 }
 
-/// Declares what a document does whose first stanza this is, in place of what was declared before.
+/// Replaces the declarations by those of a document with this first stanza: a preamble's, otherwise none.
 pub(crate) fn declare_first<'t>(
     alloc: Global,
     declarations: &mut Declarations<'t>,
@@ -511,7 +511,7 @@ pub(crate) fn declare<'t>(
     Ok(())
 }
 
-/// Takes the names that these declarations require, once the first stanza has declared them.
+/// Sets `required` to the names that each package needs, after the first stanza; does nothing after others.
 pub(crate) fn require<'t>(
     alloc: Global,
     required: &mut Vec<&'t str>,

@@ -11,8 +11,8 @@ pub(crate) mod mistyped;
 pub(crate) mod of_fault;
 
 use crate::declarations::{Declarations, declare_first};
-use crate::details::mistyped::{lacking, misdeclared, mistyped};
-use crate::names::{first_named, postmark_of};
+use crate::details::mistyped::{misdeclared, missing_name_detail, type_error_detail};
+use crate::names::{first_property_named, postmark_of};
 use cudf_problem::Postmark;
 use cudf_text::{Fault, Kind, Next, PropertyRef, StanzaRef, Stanzas};
 use std::alloc::{AllocError, Global};
@@ -98,7 +98,7 @@ pub enum Format {
 }
 
 /// What is reported of a fault in this stanza.
-pub(crate) fn told<'t>(
+pub(crate) fn stanza_fault_detail<'t>(
     alloc: Global,
     found: &FoundStanza<'t>,
     fault: Fault,
@@ -110,17 +110,17 @@ pub(crate) fn told<'t>(
     match fault.kind {
         Kind::E4 => Ok(first(stanza)),
         Kind::E6 => Ok(request(found.passed.request)),
-        Kind::E7 => Ok(repeated(stanza, fault.line)),
-        Kind::E8 => Ok(undeclared(stanza, fault.line)),
-        Kind::E9 => Ok(mistyped(alloc, &found.passed.declarations, stanza, fault.line)),
+        Kind::E7 => Ok(repeated_name_detail(stanza, fault.line)),
+        Kind::E8 => Ok(undeclared_detail(stanza, fault.line)),
+        Kind::E9 => Ok(type_error_detail(alloc, &found.passed.declarations, stanza, fault.line)),
         Kind::E10 => misdeclared(alloc, stanza, fault.line),
-        Kind::E14 => lacking(alloc, &found.passed.declarations, stanza),
-        Kind::E16 => Ok(misplaced(stanza, fault.line)),
+        Kind::E14 => missing_name_detail(alloc, &found.passed.declarations, stanza),
+        Kind::E16 => Ok(misplaced_detail(stanza, fault.line)),
         _ => Ok(None),
     }
 }
 
-/// The first property.
+/// The detail of E4: the name of the first property.
 fn first<'t>(stanza: &StanzaRef<'t>) -> Option<Detail<'t>>
     ensures { option_map detail_view result ≡ first_detail (stanza_view stanza.now) }
 {
@@ -130,30 +130,30 @@ fn first<'t>(stanza: &StanzaRef<'t>) -> Option<Detail<'t>>
     }
 }
 
-/// The request, by its line.
+/// The detail of E6: the line of the request, if there is one.
 fn request<'t>(line: Option<u64>) -> Option<Detail<'t>>
     ensures { option_map detail_view result ≡ option_map request_on line }
 {
     line.map(|line| Detail::RequestOn { line })
 }
 
-/// The first property with the name of the one on a line.
-fn repeated<'t>(stanza: &StanzaRef<'t>, line: u64) -> Option<Detail<'t>>
+/// The detail of E7 on this line: the first property of that name.
+fn repeated_name_detail<'t>(stanza: &StanzaRef<'t>, line: u64) -> Option<Detail<'t>>
     ensures { option_map detail_view result
         ≡ option_and_then (repeated_detail (stanza_view stanza.now)) (property_at line (stanza_view stanza.now)) }
 {
     match property_on(stanza, line) {
-        Some(property) => first_of_name(stanza, property.name),
+        Some(property) => earlier_property_detail(stanza, property.name),
         None => None,
     }
 }
 
 /// The first property of this name.
-fn first_of_name<'t>(stanza: &StanzaRef<'t>, name: &'t str) -> Option<Detail<'t>>
+fn earlier_property_detail<'t>(stanza: &StanzaRef<'t>, name: &'t str) -> Option<Detail<'t>>
     ensures { option_map detail_view result
         ≡ option_map (λ first. name_on name.now first.line) (find (has_name name.now) (stanza_view stanza.now).properties) }
 {
-    match first_named(stanza, name) {
+    match first_property_named(stanza, name) {
         Some(first) => Some(Detail::NameOn {
             name,
             line: first.line,
@@ -163,7 +163,7 @@ fn first_of_name<'t>(stanza: &StanzaRef<'t>, name: &'t str) -> Option<Detail<'t>
 }
 
 /// The name of the property on a line.
-fn undeclared<'t>(stanza: &StanzaRef<'t>, line: u64) -> Option<Detail<'t>>
+fn undeclared_detail<'t>(stanza: &StanzaRef<'t>, line: u64) -> Option<Detail<'t>>
     ensures { option_map detail_view result
         ≡ option_map (λ q. undeclared q.name) (property_at line (stanza_view stanza.now)) }
 {
@@ -175,8 +175,8 @@ fn undeclared<'t>(stanza: &StanzaRef<'t>, line: u64) -> Option<Detail<'t>>
     }
 }
 
-/// The same, of a name that has no meaning there.
-fn misplaced<'t>(stanza: &StanzaRef<'t>, line: u64) -> Option<Detail<'t>>
+/// The detail of E16 on this line: the name of the property.
+fn misplaced_detail<'t>(stanza: &StanzaRef<'t>, line: u64) -> Option<Detail<'t>>
     ensures { option_map detail_view result
         ≡ option_map (λ q. misplaced q.name) (property_at line (stanza_view stanza.now)) }
 {

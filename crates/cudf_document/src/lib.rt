@@ -13,7 +13,9 @@ pub(crate) mod problem;
 pub(crate) mod proposed;
 pub(crate) mod solution;
 
-pub use cudf_problem::{Keep, Mode, Package, Problem, Request, Solution, Status, Unknown, initial};
+pub use cudf_problem::{
+    InstalledPair, Keep, Mode, Package, Problem, Request, Solution, Status, initial,
+};
 pub use details::invalid::format_of;
 pub use details::of_fault::detail;
 pub use details::{Detail, Format};

@@ -108,7 +108,8 @@ fn are_equal(name: &str, other: &str) -> bool
     name.len() == other.len() && are_equal_bytes(name, other)
 }
 
-/// The same. Inlined, what only a comparison needs would be made ready before each loop over names.
+/// Whether the names are equal, byte by byte. Not inlined: what prepares the comparison would be repeated before each
+/// loop over names.
 #[inline(never)]
 fn are_equal_bytes(name: &str, other: &str) -> bool
     ensures { result ≡ bytes_eq name.now other.now }
@@ -117,7 +118,7 @@ fn are_equal_bytes(name: &str, other: &str) -> bool
 }
 
 /// The first property of this name.
-pub(crate) fn first_named<'s, 'a>(
+pub(crate) fn first_property_named<'s, 'a>(
     stanza: &'s StanzaRef<'a>,
     name: &str,
 ) -> Option<&'s PropertyRef<'a>>
@@ -160,7 +161,7 @@ pub(crate) fn misplaced_fault(
     }
 }
 
-/// The first fault of such a property.
+/// The first E16 of a stanza, which has none without a postmark.
 fn first_misplaced(
     document: DocumentKind,
     mark: Option<Postmark>,
@@ -175,7 +176,7 @@ fn first_misplaced(
     }
 }
 
-/// The same under a postmark. The names of a package's properties aren't looked at.
+/// The first E16 of a stanza with this postmark; a package has none.
 fn misplaced_under(document: DocumentKind, mark: Postmark, stanza: &StanzaRef<'_>) -> Option<Fault>
     ensures { result
         ≡ least (flat_map (λ p. fault_if (misplaces document (Some mark) p.name) p.line E16) (stanza_view stanza.now).properties) }
@@ -186,7 +187,7 @@ fn misplaced_under(document: DocumentKind, mark: Postmark, stanza: &StanzaRef<'_
     }
 }
 
-/// The same, where each name is looked at.
+/// The first E16 of a stanza with this postmark, each of whose names is tested.
 fn first_of_all(document: DocumentKind, mark: Postmark, stanza: &StanzaRef<'_>) -> Option<Fault>
     ensures { result
         ≡ least (flat_map (λ p. fault_if (misplaces document (Some mark) p.name) p.line E16) (stanza_view stanza.now).properties) }

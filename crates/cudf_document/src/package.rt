@@ -18,7 +18,7 @@ ghost use Rattle.cudf_document.specs.Working.SeenNames.{AreNames};
 
 use crate::declarations::Declarations;
 use crate::fault::{fault_on, keep_lesser, mistyped_unless};
-use crate::names::{SeenNames, first_named, postmark_of};
+use crate::names::{SeenNames, first_property_named, postmark_of};
 use cudf_problem::{Keep, Package, Postmark, read_keep};
 use cudf_text::{Fault, Kind, PropertyRef, StanzaRef, trim};
 use cudf_value::{
@@ -238,7 +238,7 @@ impl<'a> Identity<'a> {
         ensures { IsIdentity result (stanza_view stanza.now).properties }
     {
         let name = package_name(stanza);
-        match first_named(stanza, "version") {
+        match first_property_named(stanza, "version") {
             Some(version) => Identity {
                 name,
                 version: read_posint(version.value),
@@ -274,7 +274,7 @@ pub(crate) fn id_of<'t>(stanza: &StanzaRef<'t>) -> Option<(&'t str, u64)>
 fn package_name<'a>(stanza: &StanzaRef<'a>) -> Option<&'a str>
     ensures { option_copied result ≡ value_of name_value (codes "package") (stanza_view stanza.now).properties }
 {
-    match first_named(stanza, "package") {
+    match first_property_named(stanza, "package") {
         Some(property) => read_name(property.value),
         None => None,
     }
@@ -300,7 +300,7 @@ pub(crate) enum PackageProperty {
     Recommends,
 }
 
-/// The field of this name, if there is one.
+/// The property of this name, if CUDF defines it for packages or it is `recommends`.
 #[inline(always)]
 pub(crate) fn package_property_named(name: &str) -> Option<PackageProperty>
     ensures { result ≡ package_property_named name.now }

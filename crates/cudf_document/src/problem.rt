@@ -18,7 +18,7 @@ pub(crate) mod walk;
 use crate::declarations::require;
 use crate::fault::{ReadError, fault_on, keep_lesser, mistyped_unless};
 use crate::names::SeenNames;
-use crate::problem::keeping::{NameRoom, Names, Parts};
+use crate::problem::keeping::{NameRoom, Names, ProblemBuilder};
 use crate::problem::walk::{Ahead, ProblemState, walk_all};
 use cudf_problem::{Mode, Problem, Request};
 use cudf_text::{Fault, Kind, PropertyRef, StanzaRef, Stanzas, Text, lend};
@@ -99,12 +99,12 @@ fn walk_held<'t, 'a>(
     alloc: Global,
     text: &'t Text<'a>,
     mode: Mode,
-) -> Result<(ProblemState<'t>, Parts<'t>), AllocError>
+) -> Result<(ProblemState<'t>, ProblemBuilder<'t>), AllocError>
     ensures { IfOk result (λ r.
         IsWhole mode (λ ss. AreParts true ss r.1) r.0 (text_view text.now)) }
 {
     let mut walk: ProblemState<'t> = ProblemState::new(alloc);
-    let mut parts: Parts<'t> = Parts::new(alloc, true, None);
+    let mut parts: ProblemBuilder<'t> = ProblemBuilder::new(alloc, true, None);
     take_lent(alloc, text, &mut walk, &mut parts, mode)?;
     walk.end(text.fault, text.lines);
     Ok((walk, parts))
@@ -115,7 +115,7 @@ fn take_lent<'t, 'a>(
     alloc: Global,
     text: &'t Text<'a>,
     walk: &mut ProblemState<'t>,
-    parts: &mut Parts<'t>,
+    parts: &mut ProblemBuilder<'t>,
     mode: Mode,
 ) -> Result<(), AllocError>
     ensures { IsSoFar mode (λ ss. AreParts true ss parts.old) walk.old [] →
@@ -150,7 +150,7 @@ pub(crate) enum RequestProperty {
     Upgrade,
 }
 
-/// The wish of this name, if there is one.
+/// The property of this name, if it is one of a request's lists.
 fn request_property_named(name: &str) -> Option<RequestProperty>
     ensures { result ≡ request_property_named name.now }
 {

@@ -12,15 +12,15 @@ ghost use Rattle.cudf_problem.specs.Statuses.{installed_id};
 ghost use Rattle.cudf_document.specs.Promises.Faults.{IsFirstFault};
 ghost use Rattle.cudf_document.specs.SolutionFaults.{solution_faults, solution_stanza_faults};
 ghost use Rattle.cudf_document.specs.Faults.{least, fault_if};
-ghost use Rattle.cudf_document.specs.Working.Extras.{AreExtras, names_with};
+ghost use Rattle.cudf_document.specs.Working.DeclaredNames.{AreExtras, names_with};
 ghost use Rattle.cudf_document.specs.Working.Judging.{line_of, version_property};
 
 pub(crate) mod package;
 
 use crate::fault::{ReadError, fault_if, keep_lesser, lesser};
-use crate::names::{DocumentKind, first_named, misplaced_fault, postmark_of};
-use crate::proposed::package::{Extras, read_solution_package};
-use cudf_problem::{Ids, Mode, Postmark, Problem, Unknown};
+use crate::names::{DocumentKind, first_property_named, misplaced_fault, postmark_of};
+use crate::proposed::package::{DeclaredNames, read_solution_package};
+use cudf_problem::{InstalledPair, Mode, PackageIds, Postmark, Problem};
 use cudf_text::{Fault, Kind, Next, StanzaRef, Stanzas, Text, lend};
 use std::alloc::{AllocError, Global};
 use std::marker::Model;
@@ -28,7 +28,7 @@ use std::marker::Model;
 /// What a well-formed solution proposes, whatever the problem is.
 #[derive(Drop)]
 pub struct Proposed<'t> {
-    pub(crate) installed: Vec<Unknown<'t>>,
+    pub(crate) installed: Vec<InstalledPair<'t>>,
 }
 
 impl<'t> Model for Proposed<'t> {
@@ -46,7 +46,7 @@ impl<'t> Proposed<'t> {
     ghost use Rattle.cudf_problem.specs.Promises.Views.{unknown_view};
 
     /// The stanzas that install a pair, in order. As long as there is no problem none of the pairs is known.
-    pub fn installed(&self) -> &[Unknown<'t>]
+    pub fn installed(&self) -> &[InstalledPair<'t>]
         ensures { map unknown_view result.now ≡ self.now }
     {
         self.installed.as_slice()
@@ -128,7 +128,7 @@ pub(crate) fn proposed_in<'t, 'a>(
 #[derive(Drop)]
 pub(crate) struct SolutionState<'p, 'a> {
     /// What they and the problem declare.
-    pub(crate) extras: Extras<'p, 'a>,
+    pub(crate) extras: DeclaredNames<'p, 'a>,
     /// Their first fault, each for itself.
     pub(crate) first: Option<Fault>,
     /// Their pairs, and the first that strictly is repeated.
@@ -136,7 +136,7 @@ pub(crate) struct SolutionState<'p, 'a> {
     /// How many there were.
     pub(crate) number: u64,
     /// Those that install a pair.
-    pub(crate) installed: Vec<Unknown<'a>>,
+    pub(crate) installed: Vec<InstalledPair<'a>>,
 }
 
 impl<'p, 'a> SolutionState<'p, 'a> {
@@ -153,7 +153,7 @@ impl<'p, 'a> SolutionState<'p, 'a> {
         ensures { IfOk result (IsRead mode problem.now.extra_names []) }
     {
         Ok(SolutionState {
-            extras: Extras::new(alloc, mode, problem)?,
+            extras: DeclaredNames::new(alloc, mode, problem)?,
             first: None,
             pairs: Pairs::new(alloc, mode),
             number: 0,
@@ -214,7 +214,7 @@ impl<'p, 'a> SolutionState<'p, 'a> {
 
 /// Adds the stanza with this number and line, if it installs a pair.
 fn push_installed<'a>(
-    installed: &mut Vec<Unknown<'a>>,
+    installed: &mut Vec<InstalledPair<'a>>,
     stanza: u64,
     line: u64,
     id: Option<(&'a str, u64)>,
@@ -224,7 +224,7 @@ fn push_installed<'a>(
         ++ option_to_list (option_map (installed_with stanza line) (option_map (λ id. (id.0.now, id.1)) id.entry))) }
 {
     match id {
-        Some((name, version)) => Ok(installed.push(Unknown {
+        Some((name, version)) => Ok(installed.push(InstalledPair {
             stanza,
             line,
             name,
@@ -246,7 +246,10 @@ pub(crate) struct SaidOfStanza<'a> {
 }
 
 /// Reads a stanza for itself, where these extra properties are declared.
-pub(crate) fn read_stanza<'a>(stanza: &StanzaRef<'a>, extras: &Extras<'_, '_>) -> SaidOfStanza<'a>
+pub(crate) fn read_stanza<'a>(
+    stanza: &StanzaRef<'a>,
+    extras: &DeclaredNames<'_, '_>,
+) -> SaidOfStanza<'a>
     ensures fault { (mode : Mode) →
         (names : List (List ℕ)) →
         (seen : List PlainStanza) →
@@ -285,7 +288,7 @@ pub(crate) fn read_stanza<'a>(stanza: &StanzaRef<'a>, extras: &Extras<'_, '_>) -
 #[derive(Drop)]
 pub(crate) struct Pairs<'a> {
     pub(crate) mode: Mode,
-    ids: Ids<'a>,
+    ids: PackageIds<'a>,
     /// The first fault of a stanza whose pair came before it.
     pub(crate) first: Option<Fault>,
 }
@@ -304,7 +307,7 @@ impl<'a> Pairs<'a> {
     {
         Pairs {
             mode,
-            ids: Ids::new(alloc),
+            ids: PackageIds::new(alloc),
             first: None,
         }
     }
@@ -325,7 +328,7 @@ impl<'a> Pairs<'a> {
         match self.mode {
             Mode::Lenient => Ok(()),
             Mode::Strict => {
-                let is_repeated = self.ids.insert_some(id)?;
+                let is_repeated = self.ids.insert_repeated(id)?;
                 let fault = pair_fault(is_repeated, stanza);
                 keep_lesser(&mut self.first, fault);
                 Ok(())
@@ -339,7 +342,7 @@ fn pair_fault(is_repeated: bool, stanza: &StanzaRef<'_>) -> Option<Fault>
     ensures { result
         ≡ least (fault_if is_repeated (line_of (version_property (stanza_view stanza.now))) E15) }
 {
-    match first_named(stanza, "version") {
+    match first_property_named(stanza, "version") {
         Some(version) => fault_if(is_repeated, version.line, Kind::E15),
         None => fault_if(is_repeated, 0, Kind::E15),
     }

@@ -18,7 +18,7 @@ ghost use Rattle.cudf_document.specs.Details.{stanza_line};
 use crate::fault::ReadError;
 use crate::package::id_of;
 use crate::proposed::{Proposed, proposed_in};
-use cudf_problem::{Mode, Problem, Solution, Status, Unknown};
+use cudf_problem::{InstalledPair, Mode, Problem, Solution, Status};
 use cudf_text::{Next, StanzaRef, Stanzas, Text};
 use std::alloc::{AllocError, Global};
 
@@ -65,7 +65,7 @@ pub fn solution_of<'t>(
 #[derive(Drop)]
 pub(crate) struct InstalledFlags<'t> {
     pub(crate) flags: Vec<bool>,
-    pub(crate) unknown: Vec<Unknown<'t>>,
+    pub(crate) unknown: Vec<InstalledPair<'t>>,
 }
 
 impl<'t> InstalledFlags<'t> {
@@ -79,13 +79,13 @@ impl<'t> InstalledFlags<'t> {
         ensures { IfOk result (IsPlaced problem.now []) }
     {
         Ok(InstalledFlags {
-            flags: no_flags(alloc, problem.packages().len())?,
+            flags: unset_flags(alloc, problem.packages().len())?,
             unknown: Vec::new(alloc),
         })
     }
 
     /// Places the pair that a stanza installs.
-    fn add(&mut self, problem: &Problem<'_>, installed: Unknown<'t>) -> Result<(), AllocError>
+    fn add(&mut self, problem: &Problem<'_>, installed: InstalledPair<'t>) -> Result<(), AllocError>
         requires { length self.old.flags.items ≡ length problem.now.packages }
         ensures { (before : List PlainUnknown) →
             IsPlaced problem.now before self.old →
@@ -101,8 +101,8 @@ impl<'t> InstalledFlags<'t> {
     }
 }
 
-/// So many flags, none of them set.
-fn no_flags(alloc: Global, n: usize) -> Result<Vec<bool>, AllocError>
+/// `n` flags, none of them set.
+fn unset_flags(alloc: Global, n: usize) -> Result<Vec<bool>, AllocError>
     ensures { IfOk result (λ flags. flags.items ≡ replicate n false) }
 {
     vec![in alloc; false; n]
@@ -160,7 +160,7 @@ pub fn stanza_lines(
     ensures { IfOk result (λ lines. lines.items ≡ map (stanza_line stanzas.entry.stanzas) problem.now.packages) }
 {
     let mut stanzas = stanzas;
-    let mut lines = no_lines(alloc, problem.packages().len())?;
+    let mut lines = unset_lines(alloc, problem.packages().len())?;
     let mut stanza = StanzaRef {
         line: 0,
         last: 0,
@@ -187,7 +187,7 @@ fn keep_line(lines: &mut Vec<Option<u64>>, problem: &Problem<'_>, stanza: &Stanz
         lines.new.items ≡ map (stanza_line (before ++ stanza_view stanza.now ∷ [])) problem.now.packages }
 {
     if let Some(index) = index_of(problem, stanza) {
-        lines[index] = first_of(lines[index], stanza.line);
+        lines[index] = earlier_line(lines[index], stanza.line);
     }
 }
 
@@ -201,15 +201,15 @@ fn index_of(problem: &Problem<'_>, stanza: &StanzaRef<'_>) -> Option<usize>
     }
 }
 
-/// The first of two lines, of which the other one is always there.
-fn first_of(earlier: Option<u64>, line: u64) -> Option<u64>
+/// The earlier line, or `line` if there is none.
+fn earlier_line(earlier: Option<u64>, line: u64) -> Option<u64>
     ensures { result ≡ option_or earlier (Some line) }
 {
     earlier.or(Some(line))
 }
 
-/// So many packages, none with a line.
-fn no_lines(alloc: Global, n: usize) -> Result<Vec<Option<u64>>, AllocError>
+/// `n` times no line.
+fn unset_lines(alloc: Global, n: usize) -> Result<Vec<Option<u64>>, AllocError>
     ensures { IfOk result (λ lines. lines.items ≡ replicate n None) }
 {
     vec![in alloc; None; n]

@@ -9,7 +9,7 @@ use Rattle.cudf_value.specs.declared.vpkg.Relop.{Relop}
 use Rattle.cudf_value.specs.Vpkgs.{meets}
 use Rattle.cudf_index.specs.Promises.Counts.{count_pairs}
 use Rattle.cudf_index.specs.Satisfaction.{is_below_one}
-use Rattle.cudf_index.specs.Working.Extents.{count_over, is_same}
+use Rattle.cudf_index.specs.Working.NumbersByPackage.{count_over, is_same}
 use Rattle.cudf_index.specs.Working.FirstPlaces.{number_meets}
 use Rattle.cudf_index.specs.Working.Givers.{Adds, Counted, Gathers, Sorts, count_gathered, count_within, numbers_given, runs_differ}
 use Rattle.cudf_index.specs.Working.Places.{HoldsSame}

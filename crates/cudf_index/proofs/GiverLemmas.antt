@@ -11,7 +11,7 @@ use Rattle.std.proofs.lemmas.List.Sums.{count_by-le-length}
 use Rattle.cudf_value.specs.declared.vpkg.Relop.{Relop}
 use Rattle.cudf_value.specs.declared.vpkg.Relop.TheVariants.{Eq, Neq, Geq, Gt, Leq, Lt}
 use Rattle.cudf_value.specs.Vpkgs.{meets}
-use Rattle.cudf_index.specs.Working.Extents.{count_over, sole_number}
+use Rattle.cudf_index.specs.Working.NumbersByPackage.{count_over, sole_number}
 use Rattle.cudf_index.specs.Working.Places.{has, HoldsSame}
 use Rattle.cudf_index.proofs.CountLemmas.{count-cons, count-append, count-all}
 use Rattle.cudf_index.proofs.PlaceLemmas.{Rises, Rising, rising_rest, not_there}

@@ -13,7 +13,7 @@ use Rattle.cudf_value.specs.declared.vpkg.Relop.{Relop}
 use Rattle.cudf_value.specs.declared.vpkg.Relop.TheVariants.{Neq}
 use Rattle.cudf_value.specs.Vpkgs.{meets}
 use Rattle.cudf_index.specs.Promises.Counts.{count_pairs}
-use Rattle.cudf_index.specs.Working.Extents.{count_over, is_same}
+use Rattle.cudf_index.specs.Working.NumbersByPackage.{count_over, is_same}
 use Rattle.cudf_index.specs.Working.Givers.{numbers_given, numbers_differ, runs_differ}
 use Rattle.cudf_index.specs.Working.Places.{HoldsSame}
 use Rattle.cudf_index.specs.declared.index.gathered_names.Provision.{Provision}

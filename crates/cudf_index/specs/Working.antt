@@ -11,5 +11,5 @@ pub mod Rows
 pub mod Trees
 pub mod TreeFalls
 pub mod Shares
-pub mod Extents
+pub mod NumbersByPackage
 pub mod Givers

@@ -25,8 +25,8 @@ mod union;
 use crate::steps::Steps;
 use cudf_problem::{Problem, Status};
 use cudf_value::{Atom, Clause, Relop, Vpkg};
-use gathered_names::{Entries, GatheredNames, MetCounts, entries_of};
-use member::{Member, Share, shares_of};
+use gathered_names::{Entries, GatheredNames, MetCounts, summarize_all};
+use member::{Member, PackageProvisions, shares_of};
 use named_trees::{NamedTrees, ProvisionTest};
 use std::alloc::{AllocError, Global};
 use std::marker::Model;
@@ -44,7 +44,7 @@ pub struct Index<'p, 't> {
     /// The same of each of these names, counted.
     entries: Vec<Entries>,
     /// What each package with many provisions gives, in the order of the places.
-    shares: Vec<Share<'p, 't>>,
+    shares: Vec<PackageProvisions<'p, 't>>,
 }
 
 impl<'p, 't> Model for Index<'p, 't> {
@@ -76,7 +76,7 @@ impl<'p, 't> Index<'p, 't> {
         ensures { IfOk result (λ index. index ≡ members (set.contains status.now) problem.now.packages) }
     {
         let gathered = gathered(alloc, problem, status)?;
-        let entries = entries_of(alloc, &gathered.rows)?;
+        let entries = summarize_all(alloc, &gathered.rows)?;
         let given = NamedTrees::of(alloc, gathered)?;
         let shares = shares_of(alloc, problem, status)?;
         Ok(Index {
@@ -89,10 +89,10 @@ impl<'p, 't> Index<'p, 't> {
     }
 
     /// The same index, with a count of the steps of its calls.
-    pub fn metered(&self) -> Metered<'_, 'p, 't>
+    pub fn metered(&self) -> MeteredIndex<'_, 'p, 't>
         ensures { result ≡ record { status = self.now; steps = 0 } }
     {
-        Metered::new(self)
+        MeteredIndex::new(self)
     }
 
     /// Whether the status satisfies the vpkg: it gives a number of its name that meets the bound,
@@ -344,7 +344,7 @@ impl<'p, 't> Index<'p, 't> {
         self.kept(name)
     }
 
-    /// What is kept of a name.
+    /// The entries of this name; `None` if the status provides nothing of it.
     fn kept(&self, name: &str) -> Option<&Entries>
         ensures { Keeps name.now self.now (option_map (λ e. e.now) result) }
     {
@@ -372,7 +372,7 @@ impl<'p, 't> Index<'p, 't> {
     }
 
     /// What the package at this place gives, if that is kept by name.
-    fn share(&self, place: u64) -> Option<&Share<'p, 't>>
+    fn share(&self, place: u64) -> Option<&PackageProvisions<'p, 't>>
         ensures { IfSome result (λ s. Some s.now ≡ find (λ p. p.0 == place) self.now) }
     {
         let _ = &self.problem; // for the prover
@@ -436,12 +436,12 @@ fn gathered<'t>(
 ///
 /// Contracts see the status of the index and the number of the steps, which only grows.
 #[derive(Drop)]
-pub struct Metered<'i, 'p, 't> {
+pub struct MeteredIndex<'i, 'p, 't> {
     index: &'i Index<'p, 't>,
     steps: Steps,
 }
 
-impl<'i, 'p, 't> Model for Metered<'i, 'p, 't> {
+impl<'i, 'p, 't> Model for MeteredIndex<'i, 'p, 't> {
     ghost use Rattle.cudf_index.specs.Promises.Prices.{Metering};
 
     ghost Value = { Metering };
@@ -449,11 +449,11 @@ impl<'i, 'p, 't> Model for Metered<'i, 'p, 't> {
     ghost view = { λ m. record { status = m.index.now; steps = m.steps } };
 }
 
-impl<'i, 'p, 't> Metered<'i, 'p, 't> {
+impl<'i, 'p, 't> MeteredIndex<'i, 'p, 't> {
     pub(crate) fn new(index: &'i Index<'p, 't>) -> Self
         ensures { result ≡ record { status = index.now; steps = 0 } }
     {
-        Metered {
+        MeteredIndex {
             index,
             steps: Steps::new(),
         }

@@ -8,7 +8,7 @@ mod steps;
 
 pub use index::counts::Counts;
 pub use index::named_trees::Providers;
-pub use index::{Index, Metered};
+pub use index::{Index, MeteredIndex};
 pub use steps::Steps;
 
 /// What follows from the definitions of satisfaction alone. A law is the contract of a function

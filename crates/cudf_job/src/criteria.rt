@@ -21,7 +21,7 @@ pub struct Criteria {
     pub changed: u64,
     /// Names with a package that is to be installed, but not their greatest version in the universe.
     pub notuptodate: u64,
-    /// Conjuncts that packages which are to be installed recommend and that aren't satisfied. Equal conjuncts at two
+    /// Clauses that packages which are to be installed recommend and that aren't satisfied. Equal clauses at two
     /// places count twice (own).
     pub unsat_recommends: u64,
     /// Packages, each a pair of name and version, that were installed and aren't to be, or are to be and weren't (own:

@@ -81,7 +81,7 @@ impl Key {
         self.rule
     }
 
-    /// The place of the conjunct, entry or stanza, from 1.
+    /// The place of the clause, entry or stanza, from 1.
     pub fn place(self) -> u64
         ensures value { result ≡ (key_view self).place }
         ensures counted { 0 < result }

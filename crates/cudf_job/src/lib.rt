@@ -12,7 +12,7 @@ mod ranking;
 pub use criteria::{Aim, Count, Criteria, Sign, compare, read_criterion};
 pub use job::Job;
 pub use key::{Aspect, Key, Part, Rule};
-pub use ranking::{Entrant, Judgement, ranked};
+pub use ranking::{Entrant, Judgement, rank_entrants};
 
 /// What follows from the definitions alone.
 pub mod laws {

@@ -64,7 +64,7 @@ fn compare_entrants(aims: &[Aim], left: &Entrant, right: &Entrant) -> Ordering
 /// # Errors
 ///
 /// `AllocError` where a growth was refused.
-pub fn ranked(aims: &[Aim], entrants: Vec<Entrant>) -> Result<Vec<Entrant>, AllocError>
+pub fn rank_entrants(aims: &[Aim], entrants: Vec<Entrant>) -> Result<Vec<Entrant>, AllocError>
     requires { IsTrue (have_own_places entrants.items) }
     ensures { IfOk result (λ ranked. ranked.items ≡ ranking aims.now entrants.items) }
 {

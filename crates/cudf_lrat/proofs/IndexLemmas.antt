@@ -12,7 +12,7 @@ use Rattle.cudf_lrat.specs.Literals.{PlainCnf}
 use Rattle.cudf_lrat.specs.Steps.{clause_numbered, is_unnamed, named_clause, step_numbered, values}
 use Rattle.cudf_lrat.specs.Working.Indices.{AreIndicesOf, IsAfter, IsIndexOf, indexed, number_at, steps_in}
 use Rattle.cudf_lrat.specs.declared.cnf.Literal.{Literal}
-use Rattle.cudf_lrat.specs.declared.reader.Signed.{Signed}
+use Rattle.cudf_lrat.specs.declared.reader.SignedNumber.{SignedNumber}
 use Rattle.cudf_lrat.specs.declared.steps.ProofSteps.{ProofSteps}
 
 not_given : (given number : ℕ) → given < number → (ltb 0 number && leb number given) ≡ false
@@ -61,7 +61,7 @@ indices-push cnf steps numbers indices number index are is =
 pub none-more : (p : ℕ → Bool) (xs : List ℕ) (x : ℕ) → list_any p xs ≡ false → p x ≡ false → list_any p (xs ++ x ∷ []) ≡ false
 none-more p xs x none here = list_any-append p xs (x ∷ []) ∙ or_from (list_any p xs) (p x || false) none (or_from (p x) false here refl)
 
-pub one-unnamed : (p : ℕ → Bool) (hints : List Signed) (i : ℕ) (d : Signed) → i < length hints → p (get_or hints i d).value ≡ true → list_any p (values hints) ≡ true
+pub one-unnamed : (p : ℕ → Bool) (hints : List SignedNumber) (i : ℕ) (d : SignedNumber) → i < length hints → p (get_or hints i d).value ≡ true → list_any p (values hints) ≡ true
 one-unnamed p hints i d inside here =
-    let same : get_or (values hints) i 0 ≡ (get_or hints i d).value = get_or-map (λ (n : Signed). n.value) hints i d 0 inside in
-    list_any_at p (values hints) i 0 (omega (arith, length-map hints (λ (n : Signed). n.value))) (ap p same ∙ here)
+    let same : get_or (values hints) i 0 ≡ (get_or hints i d).value = get_or-map (λ (n : SignedNumber). n.value) hints i d 0 inside in
+    list_any_at p (values hints) i 0 (omega (arith, length-map hints (λ (n : SignedNumber). n.value))) (ap p same ∙ here)

@@ -15,7 +15,7 @@ use Rattle.cudf_lrat.specs.Literals.{Assignment, IsCore, clause_at, is_satisfied
 use Rattle.cudf_lrat.specs.Steps.{Derived, PartialAssignment, ClauseStatus, assign, assign_unit, clause_numbered, conflict, denied, derived, greatest_number, is_beyond, is_false, is_false_at, is_same, is_unnamed, literal_of, named_clause, negated, no_values, not_unit, propagate, result_map, status_of, status_by, step_numbered, step_result, unit, used_by, values}
 use Rattle.cudf_lrat.specs.declared.checker.ProofFault.{ProofFault}
 use Rattle.cudf_lrat.specs.declared.cnf.Literal.{Literal}
-use Rattle.cudf_lrat.specs.declared.reader.Signed.{Signed}
+use Rattle.cudf_lrat.specs.declared.reader.SignedNumber.{SignedNumber}
 
 abbrev Sat : Assignment → List Literal → Type 0
 Sat t clause = is_satisfied_by t clause ≡ true
@@ -205,7 +205,7 @@ some_from (Some clause) h = refl
 all_listed : (xs : List ℕ) → All (λ x. is_listed x xs ≡ true) xs
 all_listed xs = λ k d lt. list_any_at (λ x. eqb x (get_or xs k d)) xs k d lt (eq-eqb _ _ refl)
 
-step_sound : (variables : ℕ) (cnf : List (List Literal)) (steps : List Derived) (number : ℕ) (literals hints : List Signed) (s : Derived) → step_result variables cnf steps number literals hints ≡ Ok s → Follows cnf steps s
+step_sound : (variables : ℕ) (cnf : List (List Literal)) (steps : List Derived) (number : ℕ) (literals hints : List SignedNumber) (s : Derived) → step_result variables cnf steps number literals hints ≡ Ok s → Follows cnf steps s
 unfolding step_result
 step_sound variables cnf steps number literals hints s is = λ t satisfied.
     let new = ok_else (leb number (greatest_number cnf steps)) _ _ s is in

@@ -7,7 +7,7 @@ use Rattle.std.proofs.lemmas.List.Elements.{All-head, All-tail}
 use Rattle.cudf_lrat.specs.Steps.{PartialAssignment, ClauseStatus, assign_unit, conflict, not_unit, propagate, result_map, status_of, unit, used_by, Derived, denied, derived, greatest_number, is_beyond, is_unnamed, literal_of, named_clause, step_result, values}
 use Rattle.cudf_lrat.specs.declared.checker.ProofFault.{ProofFault}
 use Rattle.cudf_lrat.specs.declared.cnf.Literal.{Literal}
-use Rattle.cudf_lrat.specs.declared.reader.Signed.{Signed}
+use Rattle.cudf_lrat.specs.declared.reader.SignedNumber.{SignedNumber}
 
 -- ---- propagation
 
@@ -30,7 +30,7 @@ result_map-map g f (Err kind) = refl
 
 -- ---- the result
 
-module _ (variables : ℕ) (cnf : List (List Literal)) (steps : List Derived) (number : ℕ) (literals hints : List Signed) where
+module _ (variables : ℕ) (cnf : List (List Literal)) (steps : List Derived) (number : ℕ) (literals hints : List SignedNumber) where
   pub result-propagated : leb number (greatest_number cnf steps) ≡ false → list_any (is_beyond variables) literals ≡ false → list_any (λ n. n.negative) hints ≡ false → list_any (is_unnamed cnf steps) (values hints) ≡ false
       → step_result variables cnf steps number literals hints ≡ result_map (derived number (map literal_of literals)) (propagate (named_clause cnf steps) (denied (map literal_of literals)) (values hints))
   unfolding step_result
@@ -38,11 +38,11 @@ module _ (variables : ℕ) (cnf : List (List Literal)) (steps : List Derived) (n
 
 -- ---- tests, from what the code answers
 
-pub within-from : (w : Bool) (limit variables : ℕ) (read literals : List Signed) → limit ≡ variables → read ≡ literals → w ≡ not (list_any (is_beyond limit) read) → w ≡ true → list_any (is_beyond variables) literals ≡ false
+pub within-from : (w : Bool) (limit variables : ℕ) (read literals : List SignedNumber) → limit ≡ variables → read ≡ literals → w ≡ not (list_any (is_beyond limit) read) → w ≡ true → list_any (is_beyond variables) literals ≡ false
 within-from w limit variables read literals same is answer holds = (λ i. list_any (is_beyond (sym same i)) (sym is i)) ∙ not-true (list_any (is_beyond limit) read) (sym answer ∙ holds)
 
-pub negative-from : (b : Bool) (read hints : List Signed) → read ≡ hints → b ≡ list_any (λ n. n.negative) read → list_any (λ n. n.negative) hints ≡ b
+pub negative-from : (b : Bool) (read hints : List SignedNumber) → read ≡ hints → b ≡ list_any (λ n. n.negative) read → list_any (λ n. n.negative) hints ≡ b
 negative-from b read hints is answer = (λ i. list_any (λ n. n.negative) (sym is i)) ∙ sym answer
 
-pub named-from : (b : Bool) (cnf : List (List Literal)) (steps : List Derived) (read hints : List Signed) → read ≡ hints → b ≡ not (list_any (is_unnamed cnf steps) (values read)) → b ≡ true → list_any (is_unnamed cnf steps) (values hints) ≡ false
+pub named-from : (b : Bool) (cnf : List (List Literal)) (steps : List Derived) (read hints : List SignedNumber) → read ≡ hints → b ≡ not (list_any (is_unnamed cnf steps) (values read)) → b ≡ true → list_any (is_unnamed cnf steps) (values hints) ≡ false
 named-from b cnf steps read hints is answer holds = (λ i. list_any (is_unnamed cnf steps) (values (sym is i))) ∙ not-true (list_any (is_unnamed cnf steps) (values read)) (sym answer ∙ holds)

@@ -9,7 +9,7 @@ use Rattle.cudf_lrat.specs.declared.checker.ProofFault.{ProofFault}
 use Rattle.cudf_lrat.specs.declared.checker.ProofFault.TheVariants.{NotAStep, NumberNotNew}
 use Rattle.cudf_lrat.specs.declared.details.ProofDetail.{ProofDetail}
 use Rattle.cudf_lrat.specs.declared.details.ProofDetail.TheVariants as detail
-use Rattle.cudf_lrat.specs.declared.reader.Signed.{Signed}
+use Rattle.cudf_lrat.specs.declared.reader.SignedNumber.{SignedNumber}
 
 -- what is said, in plain texts
 pub data PlainDetail : Type 0 where
@@ -32,7 +32,7 @@ abbrev pub is_binary : List ℕ → Bool
 is_binary line = not (is_utf8 line) || list_any is_binary_byte line
 
 -- literals or none, and a zero at the end
-abbrev pub is_clause : Option (List (List Signed)) → Bool
+abbrev pub is_clause : Option (List (List SignedNumber)) → Bool
 is_clause (Some (literals ∷ [] ∷ [])) = true
 is_clause _ = false
 

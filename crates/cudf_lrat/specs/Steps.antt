@@ -5,7 +5,7 @@ use Rattle.cudf_lrat.specs.Literals.{clause_at}
 use Rattle.cudf_lrat.specs.declared.checker.ProofFault.{ProofFault}
 use Rattle.cudf_lrat.specs.declared.checker.ProofFault.TheVariants.{NumberNotNew, NoSuchVariable, RatStep, NoSuchClause, HintNotUnit, NoConflict}
 use Rattle.cudf_lrat.specs.declared.cnf.Literal.{Literal}
-use Rattle.cudf_lrat.specs.declared.reader.Signed.{Signed}
+use Rattle.cudf_lrat.specs.declared.reader.SignedNumber.{SignedNumber}
 
 -- ---- partial assignments
 
@@ -108,17 +108,17 @@ abbrev pub greatest_number : List (List Literal) → List Derived → ℕ
 greatest_number cnf [] = length cnf
 greatest_number cnf (s ∷ earlier) = s.number
 
-abbrev pub literal_of : Signed → Literal
+abbrev pub literal_of : SignedNumber → Literal
 literal_of n = record { variable = n.value; positive = not n.negative }
 
-abbrev pub is_beyond : ℕ → Signed → Bool
+abbrev pub is_beyond : ℕ → SignedNumber → Bool
 is_beyond variables n = nat_lt variables n.value
 
-abbrev pub values : List Signed → List ℕ
+abbrev pub values : List SignedNumber → List ℕ
 values numbers = map (λ n. n.value) numbers
 
 -- a step after others, the last of these first: the first of these faults, or what was derived
-unfoldable pub step_result : ℕ → List (List Literal) → List Derived → ℕ → List Signed → List Signed → Result Derived ProofFault
+unfoldable pub step_result : ℕ → List (List Literal) → List Derived → ℕ → List SignedNumber → List SignedNumber → Result Derived ProofFault
 step_result variables cnf steps number literals hints =
     if nat_le number (greatest_number cnf steps) then Err NumberNotNew
     else (if list_any (is_beyond variables) literals then Err NoSuchVariable

@@ -24,7 +24,7 @@ pub(crate) struct AssignedValue {
 pub(crate) enum ClauseStatus {
     /// All of its literals are false.
     Conflict,
-    /// All others are.
+    /// All of its literals but this one are false.
     Unit(Literal),
     /// Two different ones or more aren't.
     NotUnit,
@@ -189,8 +189,10 @@ fn propagate(
     Err(ProofFault::NoConflict)
 }
 
-/// Reverse unit propagation: makes all literals of the clause false, and propagates the clauses of the indices.
-pub(crate) fn propagate_denied(
+/// Reverse unit propagation: makes all literals of the clause false, and propagates the clauses of the indices, in order.
+/// Gives how many indices were used, the clause of the last one a conflict. `HintNotUnit` where a clause is no unit,
+/// `NoConflict` where the indices end first.
+pub(crate) fn check_rup(
     cnf: &Cnf,
     steps: &ProofSteps,
     assignment: &mut [AssignedValue],

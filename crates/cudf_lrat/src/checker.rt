@@ -9,9 +9,9 @@ ghost use Rattle.cudf_lrat.specs.Steps.{denied, derived, greatest_number, is_bey
 ghost use Rattle.cudf_lrat.specs.Working.Indices.{AreIndicesOf, IsAfter, indexed, number_at, steps_in};
 ghost use Rattle.cudf_lrat.specs.Working.Views.{taken_view};
 
-use crate::assignment::{AssignedValue, propagate_denied};
+use crate::assignment::{AssignedValue, check_rup};
 use crate::cnf::{Cnf, Literal};
-use crate::reader::{ProofLine, Signed, first_line, has_negative, read_line};
+use crate::reader::{ProofLine, SignedNumber, first_line, has_negative, read_line};
 use crate::steps::{ProofSteps, core_of};
 use std::alloc::{AllocError, Global};
 
@@ -151,15 +151,15 @@ pub(crate) struct Checker {
     /// The last step that assigned values.
     pub last: u32,
     // Of the last line that was read:
-    pub literals: Vec<Signed>,
-    pub hints: Vec<Signed>,
+    pub literals: Vec<SignedNumber>,
+    pub hints: Vec<SignedNumber>,
     pub clause: Vec<Literal>,
     pub indices: Vec<u32>,
 }
 
 /// Reads the literals into the clause, in place of what was there, where none is beyond the variables.
 fn read_clause(
-    literals: &[Signed],
+    literals: &[SignedNumber],
     variables: u32,
     clause: &mut Vec<Literal>,
 ) -> Result<bool, AllocError>
@@ -184,7 +184,7 @@ fn read_clause(
 fn find_all(
     cnf: &Cnf,
     steps: &ProofSteps,
-    hints: &[Signed],
+    hints: &[SignedNumber],
     indices: &mut Vec<u32>,
 ) -> Result<bool, AllocError>
     requires { IsAfter cnf.now steps.now }
@@ -279,7 +279,7 @@ impl Checker {
             return Err(AllocError);
         }
         self.last += 1;
-        match propagate_denied(
+        match check_rup(
             cnf,
             &self.steps,
             &mut self.assignment,

@@ -142,7 +142,7 @@ impl Cnf {
         clause.iter().all(|literal| 0 < literal.variable && literal.variable <= variables)
     }
 
-    /// Whether those of all clauses are.
+    /// Whether all variables of all clauses are from 1 to `variables`.
     fn are_within(variables: u32, clauses: &Lists<Literal>) -> bool
         ensures { IsTrue result → All (All (IsWithin variables)) (lists_in clauses.now) }
     {

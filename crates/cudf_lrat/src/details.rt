@@ -7,7 +7,7 @@ ghost use Rattle.cudf_lrat.specs.Lines.{cut_at_zeros, proof_line, words_of};
 
 use crate::checker::ProofFault;
 use crate::cnf::Cnf;
-use crate::reader::{ProofLine, Signed, first_line, has_ended, read_line, read_numbers};
+use crate::reader::{ProofLine, SignedNumber, first_line, has_ended, read_line, read_numbers};
 use cudf_text::trim;
 use std::alloc::{AllocError, Global};
 use std::str;
@@ -103,8 +103,8 @@ fn line_detail<'p>(alloc: Global, line: &'p [u8]) -> Result<Option<ProofDetail<'
 /// Whether the line is blank, a comment or a deletion. Its numbers are read into the lists.
 fn is_skipped(
     line: &[u8],
-    literals: &mut Vec<Signed>,
-    hints: &mut Vec<Signed>,
+    literals: &mut Vec<SignedNumber>,
+    hints: &mut Vec<SignedNumber>,
 ) -> Result<bool, AllocError>
     ensures { IfOk result (λ is. is ≡ is_skipped (proof_line line.now)) }
 {

@@ -14,7 +14,7 @@ use std::alloc::AllocError;
 
 /// A number with a sign or without.
 #[derive(Clone, Copy)]
-pub(crate) struct Signed {
+pub(crate) struct SignedNumber {
     pub negative: bool,
     pub value: u64,
 }
@@ -159,12 +159,12 @@ fn has_minus(word: &[u8]) -> bool
 /// The number that the word is, where a minus may be before a number of at least 1.
 #[inline(always)]
 #[tactic(auto, unfolding(crate::specs::Lines::signed_number))]
-fn read_signed(word: &[u8]) -> Option<Signed>
+fn read_signed(word: &[u8]) -> Option<SignedNumber>
     ensures { result ≡ signed_number word.now }
 {
     if !has_minus(word) {
         let value = read_number(word)?;
-        return Some(Signed {
+        return Some(SignedNumber {
             negative: false,
             value,
         });
@@ -173,7 +173,7 @@ fn read_signed(word: &[u8]) -> Option<Signed>
     if value == 0 {
         return None;
     }
-    Some(Signed {
+    Some(SignedNumber {
         negative: true,
         value,
     })
@@ -187,7 +187,7 @@ pub(crate) fn has_ended(text: &[u8]) -> bool
 }
 
 /// Whether one of the numbers has a minus.
-pub(crate) fn has_negative(numbers: &[Signed]) -> bool
+pub(crate) fn has_negative(numbers: &[SignedNumber]) -> bool
     ensures { result ≡ list_any (λ n. n.negative) numbers.now }
 {
     numbers.iter().any(|number| number.negative)
@@ -197,7 +197,7 @@ pub(crate) fn has_negative(numbers: &[Signed]) -> bool
 /// zero, where there is one and all words before it are numbers.
 pub(crate) fn read_numbers<'t>(
     text: &'t [u8],
-    numbers: &mut Vec<Signed>,
+    numbers: &mut Vec<SignedNumber>,
 ) -> Result<Option<&'t [u8]>, AllocError>
     ensures { IfOk result (λ found. MatchOption found (HasNoZero (cut_at_zeros (words_of text.now))) (λ rest.
         cut_at_zeros (words_of text.now) ≡ with_piece numbers.new.items (cut_at_zeros (words_of rest.now)))) }
@@ -218,7 +218,7 @@ pub(crate) fn read_numbers<'t>(
 }
 
 /// Whether a deletion goes on with the text. What is deleted isn't kept.
-fn is_deletion(text: &[u8], numbers: &mut Vec<Signed>) -> Result<bool, AllocError>
+fn is_deletion(text: &[u8], numbers: &mut Vec<SignedNumber>) -> Result<bool, AllocError>
     ensures { IfOk result (λ valid. deletion_of (cut_at_zeros (words_of text.now)) ≡ (if valid then skipped else invalid)) }
 {
     let Some(rest) = read_numbers(text, numbers)? else {
@@ -234,8 +234,8 @@ fn is_deletion(text: &[u8], numbers: &mut Vec<Signed>) -> Result<bool, AllocErro
 fn read_step(
     number: u64,
     text: &[u8],
-    literals: &mut Vec<Signed>,
-    hints: &mut Vec<Signed>,
+    literals: &mut Vec<SignedNumber>,
+    hints: &mut Vec<SignedNumber>,
 ) -> Result<ProofLine, AllocError>
     ensures { IfOk result (λ line.
         line_view line literals.new.items hints.new.items ≡ step_of number (cut_at_zeros (words_of text.now))) }
@@ -257,8 +257,8 @@ fn read_step(
 fn read_numbered(
     number: u64,
     text: &[u8],
-    literals: &mut Vec<Signed>,
-    hints: &mut Vec<Signed>,
+    literals: &mut Vec<SignedNumber>,
+    hints: &mut Vec<SignedNumber>,
 ) -> Result<ProofLine, AllocError>
     ensures { IfOk result (λ line. line_view line literals.new.items hints.new.items ≡ numbered_line (Some number) (words_of text.now)) }
 {
@@ -279,8 +279,8 @@ fn read_numbered(
 #[tactic(auto, unfolding(crate::specs::Lines::proof_line))]
 pub(crate) fn read_line(
     text: &[u8],
-    literals: &mut Vec<Signed>,
-    hints: &mut Vec<Signed>,
+    literals: &mut Vec<SignedNumber>,
+    hints: &mut Vec<SignedNumber>,
 ) -> Result<ProofLine, AllocError>
     ensures { IfOk result (λ line. line_view line literals.new.items hints.new.items ≡ proof_line text.now) }
 {

@@ -123,7 +123,7 @@ impl ProofSteps {
 }
 
 /// Marks the indices as needed.
-fn need_all(needed: &mut [bool], indices: &[u32])
+fn mark_needed(needed: &mut [bool], indices: &[u32])
     requires { All (λ i. i < length needed.old) indices.now }
     ensures { (k : ℕ) → slice_index_or needed.new k false ≡ (list_any (λ i. i == k) indices.now || slice_index_or needed.old k false) }
 {
@@ -133,7 +133,7 @@ fn need_all(needed: &mut [bool], indices: &[u32])
 }
 
 /// Marks what a step used as needed, where the step is.
-fn need_step(cnf: &Cnf, steps: &ProofSteps, needed: &mut [bool], position: usize)
+fn mark_used(cnf: &Cnf, steps: &ProofSteps, needed: &mut [bool], position: usize)
     requires after { IsAfter cnf.now steps.now }
     requires inside { position < length steps.now.numbers.items }
     requires all { length needed.old ≡ length cnf.now.clauses + length steps.now.numbers.items }
@@ -143,12 +143,12 @@ fn need_step(cnf: &Cnf, steps: &ProofSteps, needed: &mut [bool], position: usize
         else slice_index_or needed.old k false) }
 {
     if needed[cnf.len() as usize + position] {
-        need_all(needed, steps.used.get(position));
+        mark_needed(needed, steps.used.get(position));
     }
 }
 
 /// Marks the last step as needed, and from it back what each needed one used.
-fn need_back(cnf: &Cnf, steps: &ProofSteps, needed: &mut [bool])
+fn mark_backwards(cnf: &Cnf, steps: &ProofSteps, needed: &mut [bool])
     requires after { IsAfter cnf.now steps.now }
     requires some { 0 < length steps.now.numbers.items }
     requires none { needed.old ≡ replicate (length cnf.now.clauses + length steps.now.numbers.items) false }
@@ -159,12 +159,12 @@ fn need_back(cnf: &Cnf, steps: &ProofSteps, needed: &mut [bool])
     let mut left = steps.numbers.len();
     while left > 0 {
         left -= 1;
-        need_step(cnf, steps, needed, left);
+        mark_used(cnf, steps, needed, left);
     }
 }
 
 /// The numbers from 1 of those that are needed, ascending.
-fn chosen(alloc: Global, needed: &[bool]) -> Result<Vec<u32>, AllocError>
+fn needed_numbers(alloc: Global, needed: &[bool]) -> Result<Vec<u32>, AllocError>
     requires { length needed.now < 2 ^ 32 }
     ensures { IfOk result (λ core. core.items ≡ filter (λ n. slice_index_or needed.now (n - 1) false) (range_with_len 1 (length needed.now))) }
 {
@@ -186,6 +186,6 @@ pub(crate) fn core_of(alloc: Global, cnf: &Cnf, steps: &ProofSteps) -> Result<Ve
     let given = cnf.len() as usize;
     let count = given + steps.numbers.len();
     let mut needed = vec![in alloc; false; count]?;
-    need_back(cnf, steps, &mut needed);
-    chosen(alloc, &needed[..given])
+    mark_backwards(cnf, steps, &mut needed);
+    needed_numbers(alloc, &needed[..given])
 }

@@ -6,6 +6,6 @@ pub(crate) mod package;
 mod problem;
 pub(crate) mod solution;
 
-pub use package::{Ids, Keep, Package, ProposedPackage, read_keep};
+pub use package::{Keep, Package, PackageIds, ProposedPackage, read_keep};
 pub use problem::{Mode, Postmark, Problem, Request};
-pub use solution::{Solution, Status, Unknown, initial};
+pub use solution::{InstalledPair, Solution, Status, initial};

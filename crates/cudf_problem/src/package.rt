@@ -65,7 +65,7 @@ pub fn read_keep(text: &str) -> Option<Keep>
 /// Pairs of name and version, each once, in the order in which they came. Each name has a number: how many other names
 /// came before it.
 #[derive(Drop)]
-pub struct Ids<'t> {
+pub struct PackageIds<'t> {
     names: IndexSet<&'t str>,
     pairs: Vec<NumberedPair>,
     /// For each name the index of its first pair. Most names have no other.
@@ -81,7 +81,7 @@ struct NumberedPair {
     version: u64,
 }
 
-impl<'t> Model for Ids<'t> {
+impl<'t> Model for PackageIds<'t> {
     ghost use Rattle.std.specs.Prelude.{List, ℕ};
     ghost use Rattle.cudf_problem.specs.Working.Numbers.{texts, pair_ids, other_index, AreNumbered};
 
@@ -92,12 +92,12 @@ impl<'t> Model for Ids<'t> {
     ghost invariant = { λ i. AreNumbered (texts i.names.keys) i.pairs.items i.firsts.items (other_index i.others) };
 }
 
-impl<'t> Ids<'t> {
+impl<'t> PackageIds<'t> {
     /// No pairs. Takes no memory.
     pub fn new(alloc: Global) -> Self
         ensures { result ≡ [] }
     {
-        Ids {
+        PackageIds {
             names: IndexSet::new(alloc),
             pairs: Vec::new(alloc),
             firsts: Vec::new(alloc),
@@ -144,8 +144,8 @@ impl<'t> Ids<'t> {
         Ok(true)
     }
 
-    /// Adds the pair, if there is one, and says whether it was there before.
-    pub fn insert_some(&mut self, id: Option<(&'t str, u64)>) -> Result<bool, AllocError>
+    /// Adds the pair, if there is one. Returns `true` if it was there before, the opposite of `insert`.
+    pub fn insert_repeated(&mut self, id: Option<(&'t str, u64)>) -> Result<bool, AllocError>
         ensures is_known { IfOk result (λ known.
             known ≡ is_known self.old (option_map (λ i. (i.0.now, i.1)) id.entry)) }
         ensures ids { OnOk result (self.new
@@ -196,7 +196,7 @@ impl<'t> Ids<'t> {
         self.names.len()
     }
 
-    /// The number of the name of the pair before which so many came.
+    /// The number of the name of the pair at this index: how many other names came before it.
     pub fn number_at(&self, index: usize) -> usize
         requires { index < length self.now }
         ensures { (d : Id) → Some result ≡ position (bytes_eq (slice_index_or self.now index d).0) (names_of_ids self.now) }

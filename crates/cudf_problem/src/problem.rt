@@ -1,6 +1,6 @@
 //! Problems: a universe and a request; what their stanzas are, and how strictly documents are read.
 
-use crate::package::{Ids, Package};
+use crate::package::{Package, PackageIds};
 use cudf_value::{Formula, VpkgList};
 use std::fmt;
 use std::marker::Model;
@@ -12,7 +12,7 @@ pub struct Problem<'t> {
     request: Request<'t>,
     recommends: Option<Formula<'t>>,
     extra_names: Vec<&'t str>,
-    ids: Ids<'t>,
+    ids: PackageIds<'t>,
 }
 
 impl<'t> Model for Problem<'t> {
@@ -61,7 +61,7 @@ impl<'t> Problem<'t> {
         request: Request<'t>,
         recommends: Option<Formula<'t>>,
         extra_names: Vec<&'t str>,
-        ids: Ids<'t>,
+        ids: PackageIds<'t>,
     ) -> Self
         requires ids { ids ≡ map package_id (map package_view packages.items) }
         requires distinct { are_distinct ids ≡ true }

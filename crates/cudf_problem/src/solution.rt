@@ -15,7 +15,7 @@ pub struct Solution<'t> {
     /// The packages of the universe that it installs.
     pub status: Status,
     /// Its stanzas that install a pair which isn't in the universe, in order.
-    pub unknown: Vec<Unknown<'t>>,
+    pub unknown: Vec<InstalledPair<'t>>,
 }
 
 /// A set of places of a universe, counted from 1.
@@ -98,7 +98,7 @@ pub fn initial(alloc: Global, problem: &Problem<'_>) -> Result<Status, AllocErro
 
 /// A stanza that installs a pair. Of a `Solution` the pair isn't in the universe.
 #[derive(Clone, Copy)]
-pub struct Unknown<'t> {
+pub struct InstalledPair<'t> {
     /// Its number among all stanzas, from 1.
     pub stanza: u64,
     /// The line of its `package` property, from 1.

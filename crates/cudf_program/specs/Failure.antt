@@ -13,7 +13,7 @@ use Rattle.cudf_command_line.specs.Usage.{usage_status}
 use Rattle.cudf_command_line.specs.declared.command.FileName.{FileName}
 use Rattle.cudf_program.specs.declared.failure.Failure.{Failure}
 use Rattle.cudf_program.specs.declared.failure.Failure.TheVariants.{Words, Usage, Open, Memory}
-use Rattle.cudf_command_line.specs.declared.usage.Usage.TheVariants as usage
+use Rattle.cudf_command_line.specs.declared.usage.UsageError.TheVariants as usage
 
 -- words that can't be had are a usage fault, and a file that can't be opened is one of files
 abbrev pub failure_status : Failure → ℕ

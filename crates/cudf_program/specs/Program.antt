@@ -23,7 +23,7 @@ use Rattle.cudf_command_line.specs.Command.{takes_standard}
 use Rattle.cudf_command_line.specs.Orders.{IsAskedFor, IsUnasked}
 use Rattle.cudf_program.specs.declared.Task.{Task}
 use Rattle.cudf_command_line.specs.declared.command.Order.{Order}
-use Rattle.cudf_command_line.specs.declared.usage.Usage.{Usage}
+use Rattle.cudf_command_line.specs.declared.usage.UsageError.{UsageError}
 use Rattle.cudf_program.specs.declared.failure.Failure.{Failure}
 use Rattle.cudf_program.specs.declared.failure.Failure.TheVariants as reason
 
@@ -112,7 +112,7 @@ pub record Declines (P : Failure → Type 0) (standard : Change (Option (List �
 
 -- the words ask for no order
 abbrev pub IsOfWords : List (List ℕ) → Failure → Type 0
-IsOfWords words failure = (usage : Usage) × (failure ≡ reason.Usage usage) × IsUnasked words usage
+IsOfWords words failure = (usage : UsageError) × (failure ≡ reason.Usage usage) × IsUnasked words usage
 
 -- what is done with these words
 abbrev pub Follows : List (List ℕ) → Opens → Change (Option (List ℕ)) → Change SinkState → ℕ → Type 0

@@ -1,9 +1,9 @@
 //! What the program says, and its exit status, where there is no whole report.
 
-use crate::Reader;
+use crate::OpenedFile;
 use crate::system::Reading;
 use cudf_check::{Outcome, RunError};
-use cudf_command_line::{FileName, Usage};
+use cudf_command_line::{FileName, UsageError};
 use std::io::{self, ErrorKind, Write};
 
 /// Why the program started no run.
@@ -12,7 +12,7 @@ pub(crate) enum Failure<'w> {
     /// The words of the command line can't be had.
     Words(io::Error),
     /// The words start no run.
-    Usage(Usage<'w>),
+    Usage(UsageError<'w>),
     /// A file can't be opened.
     Open(FileName<'w>, io::Error),
     /// Memory ran out while files were opened.
@@ -76,7 +76,7 @@ impl<'w> Failure<'w> {
         ensures { result ≡ words_failure (error_kind error) error }
     {
         match error.kind() {
-            ErrorKind::OutOfMemory => Failure::Usage(Usage::Memory),
+            ErrorKind::OutOfMemory => Failure::Usage(UsageError::Memory),
             _ => Failure::Words(error),
         }
     }
@@ -104,9 +104,9 @@ pub(crate) struct LastInput<'w> {
 impl<'w> LastInput<'w> {
     /// The last of these inputs that was read, or else the first of all.
     pub(crate) fn of<F: Drop, S: Drop>(
-        problem: (FileName<'w>, Reader<'_, F, S>),
+        problem: (FileName<'w>, OpenedFile<'_, F, S>),
         names: &[FileName<'w>],
-        others: Vec<Reader<'_, F, S>>,
+        others: Vec<OpenedFile<'_, F, S>>,
     ) -> LastInput<'w> {
         let (name, reader) = problem;
         let mut last = LastInput {

@@ -19,7 +19,7 @@ mod failure;
 mod system;
 
 use cudf_check::{Device, Named, RunError, Sink, run};
-use cudf_command_line::{FileName, Order, Usage, command};
+use cudf_command_line::{FileName, Order, UsageError, command};
 use failure::{Failure, LastInput, tell_outcome};
 use std::alloc::{AllocError, Global};
 use std::env;
@@ -47,7 +47,7 @@ fn respond<R: System + AllocGlobal, I: Read, W: Sink, E: Write>(
 {
     match words(rt) {
         Ok(words) => obey(rt, &words, standard, out, errors),
-        Err(error) => fail(Failure::from_words(error), out, errors),
+        Err(error) => report_failure(Failure::from_words(error), out, errors),
     }
 }
 
@@ -58,11 +58,11 @@ fn words<R: System + AllocGlobal>(rt: &R) -> io::Result<Vec<String>>
         (λ error. R.says rt.now (Err error) ⊎ (error_kind error ≡ OutOfMemory)) }
 {
     let args = rt.args()?;
-    Ok(gathered(rt.alloc(), args)?)
+    Ok(collect_args(rt.alloc(), args)?)
 }
 
 /// All of these words, in their order.
-fn gathered(alloc: Global, args: env::Args) -> Result<Vec<String>, AllocError>
+fn collect_args(alloc: Global, args: env::Args) -> Result<Vec<String>, AllocError>
     ensures { IfOk result (λ words. words.items ≡ into_iter_items args) }
 {
     let mut words = Vec::new(alloc);
@@ -83,7 +83,7 @@ fn obey<R: System + AllocGlobal, I: Read, W: Sink, E: Write>(
 ) -> u8
     ensures { Follows (map (λ word. string_bytes word) words.now) (R.opens rt.now) (change I.remaining standard.old standard.new) (change W.state out.old out.new) result }
 {
-    match command::command(rt.alloc(), words) {
+    match command::parse_command_line(rt.alloc(), words) {
         Ok(order) => {
             if order.takes_standard() {
                 carry_out(rt, order, Some(standard), out, errors)
@@ -91,7 +91,7 @@ fn obey<R: System + AllocGlobal, I: Read, W: Sink, E: Write>(
                 carry_out::<R, &mut I, W, E>(rt, order, None, out, errors)
             }
         }
-        Err(usage) => fail(Failure::Usage(usage), out, errors),
+        Err(usage) => report_failure(Failure::Usage(usage), out, errors),
     }
 }
 
@@ -107,20 +107,20 @@ fn carry_out<R: System + AllocGlobal, S: Read + Drop, W: Sink, E: Write>(
     ensures { IsTried (R.opens rt.now) (option_map S.remaining standard) order.entry (change W.state out.old out.new) result }
 {
     match open_files(rt, order, standard) {
-        Ok(task) => finish(rt.alloc(), task, out, errors),
-        Err(failure) => fail(failure, out, errors),
+        Ok(task) => run_task(rt.alloc(), task, out, errors),
+        Err(failure) => report_failure(failure, out, errors),
     }
 }
 
 /// A reader of an input, with the name that lines of the report begin with, where they name files.
-pub(crate) type Reader<'w, F, S> = Named<'w, Device<Input<F, S>>>;
+pub(crate) type OpenedFile<'w, F, S> = Named<'w, Device<Input<F, S>>>;
 
 /// An order on open files.
 #[derive(Drop)]
 struct Task<'w, F, S> {
     order: Order<'w>,
-    problem: Reader<'w, F, S>,
-    others: Vec<Reader<'w, F, S>>,
+    problem: OpenedFile<'w, F, S>,
+    others: Vec<OpenedFile<'w, F, S>>,
 }
 
 /// Opens the files of an order, that of the problem first, and then the others in order. Nothing is opened
@@ -172,7 +172,7 @@ fn open_each<'w, R: System + AllocGlobal, S: Read + Drop>(
     names_files: bool,
     names: &[FileName<'w>],
     standard: &mut Option<S>,
-) -> Result<Vec<Reader<'w, R::File, S>>, Failure<'w>>
+) -> Result<Vec<OpenedFile<'w, R::File, S>>, Failure<'w>>
     requires { count_by is_standard names.now ≤ length (option_to_list standard.old) }
     ensures opened { MatchResult result
         (λ readers. AllZip (IsOpenedAs (R.opens rt.now) (option_map S.remaining standard.old) (left_of R.File.remaining S.remaining)) names.now readers.items)
@@ -195,7 +195,7 @@ fn open_named<'w, R: System, S: Read>(
     names_files: bool,
     name: FileName<'w>,
     standard: &mut Option<S>,
-) -> Result<Reader<'w, R::File, S>, Failure<'w>>
+) -> Result<OpenedFile<'w, R::File, S>, Failure<'w>>
     requires { IsThere name standard.old }
     ensures opened { MatchResult result
         (IsOpenedAs (R.opens rt.now) (option_map S.remaining standard.old) (left_of R.File.remaining S.remaining) name.entry)
@@ -221,7 +221,7 @@ fn label(names_files: bool, name: FileName<'_>) -> Option<&str>
 }
 
 /// Runs the job, and answers its exit status. Where it was broken off, it says why.
-fn finish<F: Read + Drop, S: Read + Drop, W: Sink, E: Write>(
+fn run_task<F: Read + Drop, S: Read + Drop, W: Sink, E: Write>(
     alloc: Global,
     task: Task<'_, F, S>,
     out: &mut W,
@@ -256,12 +256,12 @@ fn finish<F: Read + Drop, S: Read + Drop, W: Sink, E: Write>(
 
 /// Prints help or the version, or says what went wrong, and answers the exit status. Help that can't be printed is a
 /// write fault.
-fn fail<W: Sink, E: Write>(failure: Failure<'_>, out: &mut W, errors: &mut E) -> u8
+fn report_failure<W: Sink, E: Write>(failure: Failure<'_>, out: &mut W, errors: &mut E) -> u8
     ensures status { IsStatusOf failure.entry (W.state out.old) (W.state out.new) result }
     ensures printed { Prints failure.entry (W.state out.old) (W.state out.new) result }
     ensures quiet { failure_status failure.entry ≢ 0 → out.new ≡ out.old }
 {
-    if let Failure::Usage(Usage::Told(text)) = &failure {
+    if let Failure::Usage(UsageError::Told(text)) = &failure {
         return match write_all(out, text.as_bytes()) {
             Ok(()) => 0,
             Err(_) => RunError::Write.status(),

@@ -7,7 +7,7 @@ use Rattle.cudf_reasons.specs.Reasons.{Keyed, PlainReason, core_of, in_order, is
 use Rattle.cudf_reasons.specs.Views.{Told, told_as}
 use Rattle.cudf_reasons.specs.Working.Tables.{reason_at, told_at}
 use Rattle.cudf_reasons.specs.Working.Walks.{Progress, is_root}
-use Rattle.cudf_reasons.specs.declared.gathering.Root.TheVariants.{Asked, Kept, Any}
+use Rattle.cudf_reasons.specs.declared.gathering.ReasonGroup.TheVariants.{Asked, Kept, Any}
 use Rattle.cudf_reasons.proofs.LawLemmas.{get_past}
 
 abbrev Reasons : Type 0

@@ -45,7 +45,8 @@ impl Places {
     ghost use Rattle.cudf_reasons.specs.Reasons.{ascending, positive_places};
     ghost use Rattle.cudf_reasons.specs.Working.Gathered.{literals_in, other_places};
 
-    /// Those that an instance of this part names, and those that it is met by, in place of what was gathered before.
+    /// Replaces the places by those of an instance of this part: `named` by its clauses' positive literals, `met` by the
+    /// negative ones other than its own package's, ascending, each once.
     fn gather(&mut self, part: Part, clauses: &[NeededClause<'_>]) -> Result<(), AllocError>
         ensures named { OnOk result (self.new.named.items ≡ flat_map positive_places (literals_in clauses.now)) }
         ensures met { OnOk result (self.new.met.items ≡ ascending (flat_map (other_places part) (literals_in clauses.now))) }
@@ -171,7 +172,7 @@ impl Model for Table {
 
 /// Which reasons are asked for.
 #[derive(Clone, Copy)]
-pub(crate) enum Root {
+pub(crate) enum ReasonGroup {
     /// Those of the request that are met by none.
     Asked,
     /// Those of `keep`.
@@ -237,15 +238,15 @@ impl Table {
     }
 
     /// Whether the one at this index is asked for so.
-    pub(crate) fn has_root(&self, root: Root, index: usize) -> bool
+    pub(crate) fn is_in_group(&self, root: ReasonGroup, index: usize) -> bool
         requires { index < length self.now }
         ensures { HoldsAt (λ reason. is_root root reason ≡ result) self.now index }
     {
         let key = self.key(index);
         match root {
-            Root::Asked => matches!(key.part(), Part::Request) && self.met(index).is_empty(),
-            Root::Kept => matches!(key.rule(), Rule::Keep),
-            Root::Any => true,
+            ReasonGroup::Asked => matches!(key.part(), Part::Request) && self.met(index).is_empty(),
+            ReasonGroup::Kept => matches!(key.rule(), Rule::Keep),
+            ReasonGroup::Any => true,
         }
     }
 

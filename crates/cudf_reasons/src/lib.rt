@@ -9,7 +9,7 @@ mod order;
 mod walk;
 
 pub use gathering::NeededClause;
-pub use order::reasons;
+pub use order::order_reasons;
 pub use walk::Reasons;
 
 /// What follows from the definition of the reasons alone. A law is the contract of a function without effect.

@@ -7,7 +7,7 @@ ghost use Rattle.cudf_reasons.specs.Views.{needed_view, told_as};
 ghost use Rattle.cudf_reasons.specs.Working.Tables.{reason_at};
 ghost use Rattle.cudf_reasons.specs.Working.Walks.{keys_ascend};
 
-use crate::gathering::{NeededClause, Root, Table, tabulate};
+use crate::gathering::{NeededClause, ReasonGroup, Table, tabulate};
 use crate::walk::{Reasons, Walk};
 use std::alloc::{AllocError, Global};
 
@@ -16,7 +16,7 @@ use std::alloc::{AllocError, Global};
 /// name positively, package by package and by key; then what is left, by key. Each is reported once. Own.
 ///
 /// The clauses come by key: those of one instance are one after the other. The only error is that memory is refused.
-pub fn reasons(alloc: Global, needed: &[NeededClause<'_>]) -> Result<Reasons, AllocError>
+pub fn order_reasons(alloc: Global, needed: &[NeededClause<'_>]) -> Result<Reasons, AllocError>
     requires { IsTrue (never_descend (keys_of (map needed_view needed.now))) }
     ensures { IfOk result (λ reasons. reasons ≡ map told_as (reasons_of (map needed_view needed.now))) }
 {
@@ -32,9 +32,9 @@ fn order_of(alloc: Global, table: &Table) -> Result<Vec<usize>, AllocError>
     ensures order { IfOk result (λ order. map (reason_at table.now) order.items ≡ in_order table.now) }
 {
     let mut walk = Walk::new(alloc, table)?;
-    walk.tell_roots(Root::Asked)?;
-    walk.tell_roots(Root::Kept)?;
+    walk.report_group(ReasonGroup::Asked)?;
+    walk.report_group(ReasonGroup::Kept)?;
     walk.follow()?;
-    walk.tell_roots(Root::Any)?;
+    walk.report_group(ReasonGroup::Any)?;
     Ok(walk.into_order())
 }

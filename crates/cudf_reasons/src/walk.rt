@@ -6,7 +6,7 @@ ghost use Rattle.cudf_reasons.specs.Reasons.{brought, walk, with_brought, with_r
 ghost use Rattle.cudf_reasons.specs.Working.Tables.{reason_at};
 ghost use Rattle.cudf_reasons.specs.Working.Walks.{is_root, keys_ascend};
 
-use crate::gathering::{Root, Table};
+use crate::gathering::{ReasonGroup, Table};
 use cudf_job::Key;
 use std::alloc::{AllocError, Global};
 use std::marker::Model;
@@ -55,12 +55,12 @@ impl<'w> Walk<'w> {
     }
 
     /// Reports those that are asked for so, by key.
-    pub(crate) fn tell_roots(&mut self, root: Root) -> Result<(), AllocError>
+    pub(crate) fn report_group(&mut self, root: ReasonGroup) -> Result<(), AllocError>
         ensures { OnOk result (self.new ≡ record self.old { told = with_reasons self.old.told (filter (is_root root) self.old.core) }) }
     {
         let table = self.table;
         for index in 0..table.len() {
-            if table.has_root(root, index) {
+            if table.is_in_group(root, index) {
                 self.tell(index)?;
             }
         }

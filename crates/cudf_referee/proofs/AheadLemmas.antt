@@ -18,13 +18,13 @@ use Rattle.cudf_job.specs.declared.key.Part.TheVariants as part
 use Rattle.cudf_job.specs.declared.key.Rule.{Rule}
 use Rattle.cudf_job.specs.declared.key.Rule.TheVariants as rule
 use Rattle.cudf_job.specs.declared.key.Aspect.{Aspect}
-use Rattle.cudf_referee.specs.declared.left.Left.{Left}
+use Rattle.cudf_referee.specs.declared.left.PackageInstancesLeft.{PackageInstancesLeft}
 use Rattle.cudf_job.specs.Keys.{PlainKey, key_of, part_row, part_place, is_key, rule_row, aspect_row, key_ranks}
 use Rattle.cudf_referee.specs.Proposals.{Proposal}
 use Rattle.cudf_referee.specs.Violations.{package_instances, request_instances, unknown_instance}
 use Rattle.cudf_referee.specs.Promises.Stops.{Stop, stop_at, package_end, package_stops, precedes, precedes_end, is_after}
 use Rattle.cudf_referee.specs.Working.Searches.{unknown_left, package_rest, packages_rest}
-use Rattle.cudf_referee.specs.Working.PackageLeft.{left_in}
+use Rattle.cudf_referee.specs.Working.PackageInstancesLeft.{left_in}
 use Rattle.cudf_referee.proofs.AscentLemmas.{Below, same_first, less_first, Climbs, from_lower, to_higher, climbs-over, instance_ranks, package_climbs, packages_climb, request_climbs}
 use Rattle.cudf_referee.proofs.ListLemmas.{and_left, filter-map, all_kept}
 use Rattle.cudf_referee.proofs.PositionLemmas.{stop_ranks, is_after-ranks}
@@ -98,7 +98,7 @@ module _ (s : Proposal) (key : PlainKey) where
       (packages_climb s m packages))
 
   -- the key's own package, of whose places these are left
-  own_package : (k : Option Left) (p : Placed) → key.part ≡ part.Package p.0 → filter (λ x. precedes key x.key) (package_instances s p) ≡ left_in s k p
+  own_package : (k : Option PackageInstancesLeft) (p : Placed) → key.part ≡ part.Package p.0 → filter (λ x. precedes key x.key) (package_instances s p) ≡ left_in s k p
       → filter (is_after key) (package_stops s p) ≡ package_rest s k p
   own_package k p of left =
       filter-append (is_after key) (map stop_at (package_instances s p)) (package_end p.0 ∷ [])
@@ -108,7 +108,7 @@ module _ (s : Proposal) (key : PlainKey) where
       itself : nat_le p.0 p.0 ≡ true
       itself = grind (arith, nat_tests)
 
-  pub packages_after : (k : Option Left) (n m i : ℕ) (packages : List PlainPackage) → key.part ≡ part.Package n → n ≡ m + i
+  pub packages_after : (k : Option PackageInstancesLeft) (n m i : ℕ) (packages : List PlainPackage) → key.part ≡ part.Package n → n ≡ m + i
       → ((p : PlainPackage) → slice_get packages i ≡ Some p → filter (λ x. precedes key x.key) (package_instances s (n, p)) ≡ left_in s k (n, p))
       → filter (is_after key) (flat_map (package_stops s) (enumerate_from m packages)) ≡ packages_rest s k (drop i (enumerate_from m packages))
   packages_after k n m i [] of h own = ap (packages_rest s k) (sym (drop-none i))

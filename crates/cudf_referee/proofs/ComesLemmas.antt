@@ -9,8 +9,8 @@ use Rattle.std.specs.Prelude.{slice_get}
 use Rattle.std.specs.List.{enumerate_from}
 use Rattle.cudf_problem.specs.Universe.{PlainPackage}
 use Rattle.cudf_index.specs.Satisfaction.{Placed}
-use Rattle.cudf_referee.specs.declared.left.Left.{Left}
-use Rattle.cudf_referee.specs.Working.PackageLeft.{left_in, left_view}
+use Rattle.cudf_referee.specs.declared.left.PackageInstancesLeft.{PackageInstancesLeft}
+use Rattle.cudf_referee.specs.Working.PackageInstancesLeft.{left_in, left_view}
 use Rattle.cudf_referee.proofs.SearchLemmas.{packages-next}
 use Rattle.cudf_problem.specs.Statuses.{PlainUnknown, ascend_above}
 use Rattle.std.proofs.lemmas.Option.{slice_get_within, get_or_from_slice_get}
@@ -52,7 +52,7 @@ comes-in all xs ys i left tail comes = record {
 }
 
 -- of packages, where of the one that is gone through these left are left
-unfoldable pub packages-comes : (s : Proposal) (all : List Stop) (k : Option Left) (j : ℕ) (p : PlainPackage) (q : Placed) (first later : Left) (i : PlainInstance)
+unfoldable pub packages-comes : (s : Proposal) (all : List Stop) (k : Option PackageInstancesLeft) (j : ℕ) (p : PlainPackage) (q : Placed) (first later : PackageInstancesLeft) (i : PlainInstance)
     → slice_get s.problem.packages j ≡ Some p → q ≡ (j + 1, p) → left_view q first ≡ left_in s k q
     → IsTail all (packages_rest s k (drop j (enumerate_from 1 s.problem.packages))) → Comes (package_left q first) i (package_left q later)
     → Comes all i (packages_rest s (Some later) (drop j (enumerate_from 1 s.problem.packages)))

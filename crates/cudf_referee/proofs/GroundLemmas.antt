@@ -12,7 +12,7 @@ use Rattle.cudf_index.specs.Satisfaction.{Placed, members}
 use Rattle.cudf_referee.specs.declared.left.Candidate.{Candidate}
 use Rattle.cudf_referee.specs.Promises.Walks.{Walking}
 use Rattle.cudf_referee.specs.Proposals.{holds_place}
-use Rattle.cudf_referee.specs.Working.PackageLeft.{Fits}
+use Rattle.cudf_referee.specs.Working.PackageInstancesLeft.{Fits}
 use Rattle.cudf_referee.proofs.ListLemmas.{and_true}
 use Rattle.cudf_referee.proofs.StatusLemmas.{holds-filter, holds-enumerate}
 

@@ -9,7 +9,7 @@ use Rattle.cudf_referee.specs.declared.left.Candidate.{Candidate}
 use Rattle.cudf_referee.specs.Proposals.{Proposal}
 use Rattle.cudf_referee.specs.Violations.{kept_instances, package_instances}
 use Rattle.cudf_referee.specs.Working.RuleInstances.{depends_instance, conflicts_instance}
-use Rattle.cudf_referee.specs.Working.PackageLeft.{placed_view, Fits, depends_of, conflicts_of, features_of, kept_features, numbered, kept_one, kept_feature}
+use Rattle.cudf_referee.specs.Working.PackageInstancesLeft.{placed_view, Fits, depends_of, conflicts_of, features_of, kept_features, numbered, kept_one, kept_feature}
 use Rattle.cudf_referee.specs.Instances.{PlainInstance}
 
 -- ---- a package

@@ -13,15 +13,15 @@ use Rattle.cudf_problem.specs.Universe.{PlainProblem}
 use Rattle.cudf_index.specs.Satisfaction.{Placed, members}
 use Rattle.cudf_referee.specs.declared.instance.Instance.{Instance}
 use Rattle.cudf_referee.specs.declared.left.Candidate.{Candidate}
-use Rattle.cudf_referee.specs.declared.left.Left.{Left}
-use Rattle.cudf_referee.specs.declared.left.RequestLeft.{RequestLeft}
+use Rattle.cudf_referee.specs.declared.left.PackageInstancesLeft.{PackageInstancesLeft}
+use Rattle.cudf_referee.specs.declared.left.RequestInstancesLeft.{RequestInstancesLeft}
 use Rattle.cudf_referee.specs.Instances.{PlainInstance}
 use Rattle.cudf_referee.specs.Promises.Views.{instance_view}
 use Rattle.cudf_referee.specs.Proposals.{Proposal, everything, holds_place}
 use Rattle.cudf_referee.specs.Violations.{package_instances, request_instances, problem_instances}
-use Rattle.cudf_referee.specs.Working.PackageLeft.{placed_view, Fits, left_in, left_view}
+use Rattle.cudf_referee.specs.Working.PackageInstancesLeft.{placed_view, Fits, left_in, left_view}
 use Rattle.cudf_referee.specs.Working.ProblemLeft.{IsPlacedAt, packages_left, left_from}
-use Rattle.cudf_referee.specs.Working.RequestLeft.{request_left_view}
+use Rattle.cudf_referee.specs.Working.RequestInstancesLeft.{request_left_view}
 use Rattle.cudf_referee.proofs.GroundLemmas.{held-at, initial-at, packages-from}
 
 -- ---- a package
@@ -45,17 +45,17 @@ left-whole : (s : Proposal) (ps : List Placed) → packages_left s None ps ≡ f
 left-whole s [] = refl
 left-whole s (p ∷ ps) = refl
 
-pub from-start : (problem : PlainProblem) (r : RequestLeft) → request_left_view problem.request r ≡ request_instances problem.request → left_from problem 0 None r ≡ problem_instances problem
+pub from-start : (problem : PlainProblem) (r : RequestInstancesLeft) → request_left_view problem.request r ≡ request_instances problem.request → left_from problem 0 None r ≡ problem_instances problem
 from-start problem r whole =
     (λ i. left-whole (everything problem) (enumerate_from 1 problem.packages) i ++ whole i)
     ∙ sym (append-nil (flat_map (package_instances (everything problem)) (enumerate_from 1 problem.packages) ++ request_instances problem.request))
 
-module _ (problem : PlainProblem) (r : RequestLeft) (k : Option Left) (i : ℕ) where
+module _ (problem : PlainProblem) (r : RequestInstancesLeft) (k : Option PackageInstancesLeft) (i : ℕ) where
   -- after all packages
   pub from-end : length problem.packages ≤ i → left_from problem i k r ≡ request_left_view problem.request r
   from-end h = ap (λ ps. packages_left (everything problem) k ps ++ request_left_view problem.request r) (drop_of_length-le (enumerate_from 1 problem.packages) (omega (arith, length-enumerate_from 1 problem.packages)))
 
-  module _ (c : Candidate) (at : IsPlacedAt problem i c) (now : Left) (same : (s : Proposal) → Fits s c → left_view (placed_view c) now ≡ left_in s k (placed_view c)) where
+  module _ (c : Candidate) (at : IsPlacedAt problem i c) (now : PackageInstancesLeft) (same : (s : Proposal) → Fits s c → left_view (placed_view c) now ≡ left_in s k (placed_view c)) where
     -- the next package, and those after it
     from-next : left_from problem i k r ≡ left_view (placed_view c) now ++ left_from problem (i + 1) None r
     from-next =
@@ -77,7 +77,7 @@ module _ (problem : PlainProblem) (r : RequestLeft) (k : Option Left) (i : ℕ) 
     from-passed none = from-next ∙ ap (λ xs. xs ++ left_from problem (i + 1) None r) none ∙ ap (λ n. left_from problem n None r) (sym at.place)
 
 -- the next instance
-pub from-found : (problem : PlainProblem) (r : RequestLeft) (k : Option Left) (i : ℕ) (c : Candidate) (at : IsPlacedAt problem i c) (now later : Left) (x : PlainInstance)
+pub from-found : (problem : PlainProblem) (r : RequestInstancesLeft) (k : Option PackageInstancesLeft) (i : ℕ) (c : Candidate) (at : IsPlacedAt problem i c) (now later : PackageInstancesLeft) (x : PlainInstance)
     → ((s : Proposal) → Fits s c → left_view (placed_view c) now ≡ left_in s k (placed_view c)) → left_view (placed_view c) now ≡ x ∷ left_view (placed_view c) later
     → left_from problem i k r ≡ x ∷ left_from problem i (Some later) r
 from-found problem r k i c at now later x same next =
@@ -85,7 +85,7 @@ from-found problem r k i c at now later x same next =
     ∙ ap (λ xs. x ∷ xs) (sym (from-next problem r (Some later) i c at later (λ s fits. refl)))
 
 -- after all packages, what the request gives is what is given
-pub from-request : (start : List PlainInstance) (problem : PlainProblem) (r later : RequestLeft) (k : Option Left) (i : ℕ) (found : Option Instance) → left_from problem i k r ≡ start → length problem.packages ≤ i
+pub from-request : (start : List PlainInstance) (problem : PlainProblem) (r later : RequestInstancesLeft) (k : Option PackageInstancesLeft) (i : ℕ) (found : Option Instance) → left_from problem i k r ≡ start → length problem.packages ≤ i
     → YieldsFirstBy instance_view (request_left_view problem.request) r found later → YieldsFirstBy instance_view (λ (xs : List PlainInstance). xs) start found (left_from problem i k later)
 from-request start problem r later k i None same end gives = (sym same ∙ from-end problem r k i end ∙ gives.0, from-end problem later k i end ∙ gives.1)
 from-request start problem r later k i (Some x) same end gives =

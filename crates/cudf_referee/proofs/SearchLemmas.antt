@@ -13,7 +13,7 @@ use Rattle.cudf_problem.specs.Promises.Views.{package_view}
 use Rattle.cudf_problem.specs.Universe.{PlainPackage}
 use Rattle.cudf_problem.specs.Statuses.{PlainUnknown}
 use Rattle.cudf_index.specs.Satisfaction.{Placed}
-use Rattle.cudf_referee.specs.declared.left.Left.{Left}
+use Rattle.cudf_referee.specs.declared.left.PackageInstancesLeft.{PackageInstancesLeft}
 use Rattle.cudf_referee.specs.Instances.{PlainInstance}
 use Rattle.cudf_referee.specs.Proposals.{Proposal}
 use Rattle.cudf_referee.specs.Promises.Stops.{Stop, stop_at, package_stops, cost, look_ups, stop_cost, least_cost}
@@ -157,20 +157,20 @@ pub rest-whole : (s : Proposal) (ps : List Placed) → packages_rest s None ps �
 rest-whole s [] = refl
 rest-whole s (p ∷ ps) = refl
 
-pub packages-next : (s : Proposal) (k : Option Left) (i : ℕ) (p : PlainPackage) → slice_get s.problem.packages i ≡ Some p
+pub packages-next : (s : Proposal) (k : Option PackageInstancesLeft) (i : ℕ) (p : PlainPackage) → slice_get s.problem.packages i ≡ Some p
     → packages_rest s k (drop i (enumerate_from 1 s.problem.packages)) ≡ package_rest s k (i + 1, p) ++ packages_rest s None (drop (i + 1) (enumerate_from 1 s.problem.packages))
 packages-next s k i p is =
     ap (packages_rest s k) (packages-from s.problem.packages i p is)
     ∙ ap (λ xs. package_rest s k (i + 1, p) ++ xs) (sym (rest-whole s (drop (i + 1) (enumerate_from 1 s.problem.packages))))
 
-pub packages-on : (old now new : Walking) (all : List Stop) (k : Option Left) (i : ℕ) (p : PlainPackage) (found : Option PlainInstance) → slice_get now.judged.problem.packages i ≡ Some p
+pub packages-on : (old now new : Walking) (all : List Stop) (k : Option PackageInstancesLeft) (i : ℕ) (p : PlainPackage) (found : Option PlainInstance) → slice_get now.judged.problem.packages i ≡ Some p
     → Goes old all None (packages_rest old.judged k (drop i (enumerate_from 1 old.judged.problem.packages))) now
     → Searches now (package_rest now.judged k (i + 1, p)) found new → Goes old all found (packages_rest old.judged None (drop (i + 1) (enumerate_from 1 old.judged.problem.packages))) new
 packages-on old now new all k i p found is goes searches =
     part-on old now new all _ (λ s. package_rest s k (i + 1, p)) found
     (goes-at old now all _ _ (packages-next old.judged k i p ((λ j. slice_get (sym goes.judged j).problem.packages i) ∙ is)) goes) searches
 
-pub packages-end : (old now : Walking) (all : List Stop) (k : Option Left) (i : ℕ) → length old.judged.problem.packages ≤ i
+pub packages-end : (old now : Walking) (all : List Stop) (k : Option PackageInstancesLeft) (i : ℕ) → length old.judged.problem.packages ≤ i
     → Goes old all None (packages_rest old.judged k (drop i (enumerate_from 1 old.judged.problem.packages))) now → Searches old all None now
 packages-end old now all k i end goes =
     goes-at old now all _ _ (at_drop_all (packages_rest old.judged k) (enumerate_from 1 old.judged.problem.packages) i (omega (arith, length-enumerate_from 1 old.judged.problem.packages))) goes

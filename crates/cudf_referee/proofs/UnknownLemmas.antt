@@ -1,7 +1,7 @@
 -- The unknown stanzas with numbers above one, found by halves.
 use Rattle.std.proofs.Common.{◌≡◌, ℕ, zero, suc, ◌+◌, ◌-◌, ◌<◌, ◌≤◌, ◌/◌, true, nat_lt, List, [], ◌∷◌, length, get_or, map, drop, cond, refl, ap, arith}
 use Rattle.std.proofs.lemmas.Bool.{ltb-true, lt-ltb, le-ltb}
-use Rattle.cudf_problem.specs.declared.solution.Unknown.{Unknown}
+use Rattle.cudf_problem.specs.declared.solution.InstalledPair.{InstalledPair}
 use Rattle.cudf_problem.specs.Statuses.{PlainUnknown, ascend_above}
 use Rattle.cudf_problem.specs.Promises.Views.{unknown_view}
 use Rattle.cudf_index.specs.Promises.Prices.{digits_within, digits}
@@ -43,7 +43,7 @@ ascending n (u ∷ us) h (suc j) (suc k) below inside = ascending u.stanza us (a
 
 -- ---- the search
 
-pub number_of : (unknown : List Unknown) (place : ℕ) (u : Unknown) (d : ℕ) → place < length unknown → (get_or unknown place u).stanza ≡ get_or (stanza_numbers (map unknown_view unknown)) place d
+pub number_of : (unknown : List InstalledPair) (place : ℕ) (u : InstalledPair) (d : ℕ) → place < length unknown → (get_or unknown place u).stanza ≡ get_or (stanza_numbers (map unknown_view unknown)) place d
 number_of [] place u d h = absurd (omega arith)
 number_of (x ∷ unknown) zero u d h = refl
 number_of (x ∷ unknown) (suc place) u d h = number_of unknown place u d (omega arith)

@@ -5,7 +5,7 @@ use Rattle.std.proofs.lemmas.Bool.{ltb-true, lt-ltb}
 use Rattle.std.proofs.lemmas.List.{length-map}
 use Rattle.std.proofs.lemmas.List.Elements.{All-nil, All-cons, All-head, All-tail}
 use Rattle.cudf_value.specs.Vpkgs.{PlainVpkg}
-use Rattle.cudf_problem.specs.declared.solution.Unknown.{Unknown}
+use Rattle.cudf_problem.specs.declared.solution.InstalledPair.{InstalledPair}
 use Rattle.cudf_problem.specs.Statuses.{PlainUnknown, ascend_above}
 use Rattle.cudf_problem.specs.Promises.Views.{unknown_view}
 use Rattle.cudf_job.specs.declared.key.Part.TheVariants as part
@@ -84,7 +84,7 @@ all_small (u ∷ us) place ascends whole last =
     let same : place ≡ length us = omega arith in
     below_last 0 u us ascends (subst (λ k. get_or (stanza_numbers (u ∷ us)) k 0 < 2 ^ 64) same last)
 
-pub numbers_small : (unknown : List Unknown) (place last : ℕ) → ascend_above 0 (map unknown_view unknown) ≡ true → place + 1 ≡ length unknown
+pub numbers_small : (unknown : List InstalledPair) (place last : ℕ) → ascend_above 0 (map unknown_view unknown) ≡ true → place + 1 ≡ length unknown
     → last ≡ get_or (stanza_numbers (map unknown_view unknown)) place 0 → last < 2 ^ 64 → All IsSmall (map unknown_view unknown)
 numbers_small unknown place last ascends whole is small =
     all_small (map unknown_view unknown) place ascends (omega (arith, length-map unknown unknown_view)) (subst (λ n. n < 2 ^ 64) is small)

@@ -8,10 +8,10 @@ pub mod Needers
 pub mod Numbered
 pub mod Places
 pub mod ProblemLeft
-pub mod RequestLeft
+pub mod RequestInstancesLeft
 pub mod RuleInstances
 pub mod Searches
-pub mod PackageLeft
+pub mod PackageInstancesLeft
 pub mod Sought
 pub mod Standings
 pub mod Walkers

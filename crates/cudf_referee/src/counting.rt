@@ -34,7 +34,7 @@ pub(crate) fn count_changes(
     })
 }
 
-/// How many conjuncts of what the packages of the status recommend aren't satisfied.
+/// How many clauses of what the packages of the status recommend aren't satisfied.
 pub(crate) fn count_unsatisfied(
     problem: &Problem<'_>,
     proposed: &Status,
@@ -54,7 +54,7 @@ pub(crate) fn count_unsatisfied(
     count
 }
 
-/// How many conjuncts of the formula aren't satisfied.
+/// How many clauses of the formula aren't satisfied.
 fn unsatisfied_of(index: &Index<'_, '_>, formula: Formula<'_>) -> u64
     ensures { result ≡ count_by (λ clause. not (satisfies_clause index.now clause)) (formula_view formula.entry) }
 {
@@ -67,7 +67,7 @@ fn unsatisfied_of(index: &Index<'_, '_>, formula: Formula<'_>) -> u64
     count
 }
 
-/// The same, where there may be none.
+/// How many clauses of the formula aren't satisfied; 0 where there is no formula.
 fn unsatisfied(index: &Index<'_, '_>, formula: Option<Formula<'_>>) -> u64
     ensures { result ≡ count_by (λ clause. not (satisfies_clause index.now clause)) (unwrap_or (option_map formula_view formula.entry) []) }
 {

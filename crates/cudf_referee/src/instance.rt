@@ -1,12 +1,12 @@
 //! Instances of rules: violated ones, all of a problem, and that of a key.
 
-use crate::left::{Candidate, Left, RequestLeft, candidate_at};
+use crate::left::{Candidate, PackageInstancesLeft, RequestInstancesLeft, candidate_at};
 use cudf_job::{Aspect, Key, Part, Rule};
-use cudf_problem::{Problem, Request, Unknown};
+use cudf_problem::{InstalledPair, Problem, Request};
 use cudf_value::{Clause, Vpkg};
 use std::marker::Model;
 
-/// One violated instance of a rule. Own.
+/// An instance of a rule, violated or not. Own.
 #[derive(Clone, Copy)]
 pub struct Instance<'t> {
     /// Its name.
@@ -16,14 +16,14 @@ pub struct Instance<'t> {
     pub line: u64,
     /// The name and version of the package or the unknown stanza; `None` for the request.
     pub subject: Option<(&'t str, u64)>,
-    /// What is wrong, with the document's own conjunct or entry.
-    pub what: What<'t>,
+    /// What is wrong, with the document's own clause or entry.
+    pub what: Requirement<'t>,
 }
 
 /// What an instance says is wrong. Own.
 #[derive(Clone, Copy)]
-pub enum What<'t> {
-    /// The status doesn't satisfy this conjunct.
+pub enum Requirement<'t> {
+    /// The status doesn't satisfy this clause.
     Needs(Clause<'t>),
     /// The other packages of the status satisfy this entry.
     ConflictsWith(Vpkg<'t>),
@@ -57,7 +57,7 @@ impl<'t> Instance<'t> {
         rule: Rule,
         number: u64,
         aspect: Option<Aspect>,
-        what: What<'t>,
+        what: Requirement<'t>,
     ) -> Self
         requires counted { 0 < number }
         requires fits { IsTrue (fits part.Request rule aspect) }
@@ -73,7 +73,7 @@ impl<'t> Instance<'t> {
     }
 
     /// The instance of an unknown stanza.
-    pub(crate) fn of_unknown(unknown: &Unknown<'t>) -> Self
+    pub(crate) fn of_unknown(unknown: &InstalledPair<'t>) -> Self
         requires { 0 < unknown.now.stanza }
         ensures { instance_view result ≡ unknown_instance (unknown_view unknown.now) }
     {
@@ -81,7 +81,7 @@ impl<'t> Instance<'t> {
             key: Key::new(Part::Solution, Rule::Unknown, unknown.stanza, None),
             line: unknown.line,
             subject: Some((unknown.name, unknown.version)),
-            what: What::Unknown,
+            what: Requirement::Unknown,
         }
     }
 }
@@ -94,8 +94,8 @@ pub struct ProblemInstances<'p, 't> {
     /// How many packages were passed.
     passed: usize,
     /// What is left of the next package, where it was begun.
-    begun: Option<Left<'t>>,
-    request: RequestLeft<'t>,
+    begun: Option<PackageInstancesLeft<'t>>,
+    request: RequestInstancesLeft<'t>,
 }
 
 impl<'p, 't> ProblemInstances<'p, 't> {
@@ -111,7 +111,7 @@ impl<'p, 't> ProblemInstances<'p, 't> {
             problem,
             passed: 0,
             begun: None,
-            request: RequestLeft::of(problem.request()),
+            request: RequestInstancesLeft::of(problem.request()),
         }
     }
 }
@@ -149,9 +149,9 @@ impl<'p, 't> Iterator for ProblemInstances<'p, 't> {
 pub struct InstanceFinder<'p, 't> {
     problem: &'p Problem<'t>,
     /// The place of the last package, the last key of it, and its instances that come after this key.
-    of_package: Option<(u64, Key, Left<'t>)>,
+    of_package: Option<(u64, Key, PackageInstancesLeft<'t>)>,
     /// The last key of the request, and its instances that come after it.
-    of_request: Option<(Key, RequestLeft<'t>)>,
+    of_request: Option<(Key, RequestInstancesLeft<'t>)>,
 }
 
 impl<'p, 't> Model for InstanceFinder<'p, 't> {
@@ -172,9 +172,9 @@ impl<'p, 't> InstanceFinder<'p, 't> {
     ghost use Rattle.cudf_referee.specs.Proposals.{everything};
     ghost use Rattle.cudf_referee.specs.Promises.Views.{instance_view};
     ghost use Rattle.cudf_referee.specs.Violations.{package_instances, request_instances, instance_of};
-    ghost use Rattle.cudf_referee.specs.Working.PackageLeft.{placed_view, left_view};
+    ghost use Rattle.cudf_referee.specs.Working.PackageInstancesLeft.{placed_view, left_view};
     ghost use Rattle.cudf_referee.specs.Working.ProblemLeft.{IsPlacedAt};
-    ghost use Rattle.cudf_referee.specs.Working.RequestLeft.{request_left_view};
+    ghost use Rattle.cudf_referee.specs.Working.RequestInstancesLeft.{request_left_view};
     ghost use Rattle.cudf_referee.specs.Working.Sought.{IsRest};
 
     /// The finder of a problem's instances.
@@ -215,7 +215,7 @@ impl<'p, 't> InstanceFinder<'p, 't> {
     }
 
     /// The instances of the key's package among which it is sought.
-    fn package_left(&self, candidate: Candidate<'p, 't>, key: Key) -> Left<'t>
+    fn package_left(&self, candidate: Candidate<'p, 't>, key: Key) -> PackageInstancesLeft<'t>
         requires { IsPlacedAt self.now (candidate.place - 1) candidate }
         ensures { IsRest (key_view key) (package_instances (everything self.now) (placed_view candidate.entry)) (left_view (placed_view candidate.entry) result) }
     {
@@ -240,7 +240,7 @@ impl<'p, 't> InstanceFinder<'p, 't> {
     }
 
     /// The instances of the request among which a key is sought.
-    fn request_left(&self, key: Key) -> RequestLeft<'t>
+    fn request_left(&self, key: Key) -> RequestInstancesLeft<'t>
         ensures { IsRest (key_view key) (request_instances self.now.request) (request_left_view self.now.request result) }
     {
         if let Some((last, left)) = self.of_request {
@@ -248,6 +248,6 @@ impl<'p, 't> InstanceFinder<'p, 't> {
                 return left;
             }
         }
-        RequestLeft::of(self.problem.request())
+        RequestInstancesLeft::of(self.problem.request())
     }
 }

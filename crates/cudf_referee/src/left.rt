@@ -5,7 +5,7 @@ ghost use Rattle.cudf_value.specs.Promises.Views.{clauses_view, vpkgs_view};
 
 mod candidate_at;
 
-use crate::instance::{Instance, What};
+use crate::instance::{Instance, Requirement};
 pub(crate) use candidate_at::candidate_at;
 use cudf_job::{Aspect, Key, Part, Rule};
 use cudf_problem::{Keep, Package, Request};
@@ -24,7 +24,7 @@ pub(crate) struct Candidate<'p, 't> {
 
 /// The instances of a package that are left: the entries of its lists, and how many of each were passed.
 #[derive(Clone, Copy)]
-pub(crate) struct Left<'t> {
+pub(crate) struct PackageInstancesLeft<'t> {
     clauses: Clauses<'t>,
     clause: u64,
     conflicts: Vpkgs<'t>,
@@ -50,7 +50,7 @@ impl<'p, 't> Candidate<'p, 't> {
     ghost use Rattle.cudf_referee.specs.Promises.Stops.{precedes};
     ghost use Rattle.cudf_referee.specs.Promises.Views.{instance_view, what_view};
     ghost use Rattle.cudf_referee.specs.Violations.{at_package, package_instances};
-    ghost use Rattle.cudf_referee.specs.Working.PackageLeft.{placed_view, Fits, depends_of, conflicts_of, features_of, left_view, left_in};
+    ghost use Rattle.cudf_referee.specs.Working.PackageInstancesLeft.{placed_view, Fits, depends_of, conflicts_of, features_of, left_view, left_in};
     ghost use Rattle.cudf_referee.specs.Working.Sought.{IsRest, Seeks};
 
     /// What is judged of what it needs: nothing, where it isn't to be installed.
@@ -89,13 +89,13 @@ impl<'p, 't> Candidate<'p, 't> {
     }
 
     /// All its instances.
-    fn all(self) -> Left<'t>
+    fn all(self) -> PackageInstancesLeft<'t>
         ensures { (s : Proposal) → Fits s self.entry → left_view (placed_view self.entry) result ≡ package_instances s (placed_view self.entry) }
     {
         let depends = self.depends();
         let conflicts = self.conflicts();
         let features = self.features();
-        Left {
+        PackageInstancesLeft {
             clauses: depends.clauses(),
             clause: 0,
             conflicts: conflicts.vpkgs(),
@@ -107,7 +107,7 @@ impl<'p, 't> Candidate<'p, 't> {
     }
 
     /// Its instances that are left: all, where it wasn't begun.
-    pub(crate) fn left(self, begun: Option<Left<'t>>) -> Left<'t>
+    pub(crate) fn left(self, begun: Option<PackageInstancesLeft<'t>>) -> PackageInstancesLeft<'t>
         ensures { (s : Proposal) → Fits s self.entry → left_view (placed_view self.entry) result ≡ left_in s begun.entry (placed_view self.entry) }
     {
         match begun {
@@ -117,7 +117,7 @@ impl<'p, 't> Candidate<'p, 't> {
     }
 
     /// Its instances that come after a key of it, whether or not one has the key.
-    pub(crate) fn behind(self, key: Key) -> Left<'t>
+    pub(crate) fn behind(self, key: Key) -> PackageInstancesLeft<'t>
         ensures { (s : Proposal) → Fits s self.entry
             → filter (λ x. precedes (key_view key) x.key) (package_instances s (placed_view self.entry)) ≡ left_view (placed_view self.entry) result }
     {
@@ -127,7 +127,7 @@ impl<'p, 't> Candidate<'p, 't> {
     }
 
     /// Goes by those of its instances that are left up to a key, and gives the one that has it.
-    pub(crate) fn seek(self, left: &mut Left<'t>, key: Key) -> Option<Instance<'t>>
+    pub(crate) fn seek(self, left: &mut PackageInstancesLeft<'t>, key: Key) -> Option<Instance<'t>>
         ensures { (all : List PlainInstance) → IsRest (key_view key) all (left_view (placed_view self.entry) left.old)
             → Seeks (key_view key) all (option_map instance_view result) (left_view (placed_view self.entry) left.new) }
     {
@@ -146,32 +146,44 @@ impl<'p, 't> Candidate<'p, 't> {
 
     /// The next of its instances that are left.
     #[inline(always)]
-    pub(crate) fn next(self, left: &mut Left<'t>) -> Option<Instance<'t>>
+    pub(crate) fn next(self, left: &mut PackageInstancesLeft<'t>) -> Option<Instance<'t>>
         ensures { YieldsFirstBy instance_view (left_view (placed_view self.entry)) left.old result left.new }
     {
         if let Some(clause) = left.clauses.next() {
             left.clause += 1;
-            return Some(self.instance(Rule::Depends, left.clause, What::Needs(clause)));
+            return Some(self.instance(Rule::Depends, left.clause, Requirement::Needs(clause)));
         }
         if let Some(vpkg) = left.conflicts.next() {
             left.conflict += 1;
-            return Some(self.instance(Rule::Conflicts, left.conflict, What::ConflictsWith(vpkg)));
+            return Some(self.instance(
+                Rule::Conflicts,
+                left.conflict,
+                Requirement::ConflictsWith(vpkg),
+            ));
         }
         if left.one {
             left.one = false;
             match self.package.keep {
-                Keep::Version => return Some(self.instance(Rule::Keep, 1, What::KeepVersion)),
-                Keep::Package => return Some(self.instance(Rule::Keep, 1, What::KeepPackage)),
+                Keep::Version => return Some(self.instance(
+                    Rule::Keep,
+                    1,
+                    Requirement::KeepVersion,
+                )),
+                Keep::Package => return Some(self.instance(
+                    Rule::Keep,
+                    1,
+                    Requirement::KeepPackage,
+                )),
                 Keep::Feature | Keep::Nothing => {}
             }
         }
         let vpkg = left.features.next()?;
         left.feature += 1;
-        Some(self.instance(Rule::Keep, left.feature, What::KeepFeature(vpkg)))
+        Some(self.instance(Rule::Keep, left.feature, Requirement::KeepFeature(vpkg)))
     }
 
     /// Its instance of a rule, at an entry's place.
-    fn instance(self, rule: Rule, number: u64, what: What<'t>) -> Instance<'t>
+    fn instance(self, rule: Rule, number: u64, what: Requirement<'t>) -> Instance<'t>
         requires counted { 0 < number }
         requires fits { IsTrue (fits (part.Package self.place) rule None) }
         ensures { instance_view result ≡ at_package (placed_view self.entry) rule number (what_view what.entry) }
@@ -187,7 +199,7 @@ impl<'p, 't> Candidate<'p, 't> {
 
 /// The instances of the request that are left: the entries of its lists, and how many of each were passed.
 #[derive(Clone, Copy)]
-pub(crate) struct RequestLeft<'t> {
+pub(crate) struct RequestInstancesLeft<'t> {
     install: Vpkgs<'t>,
     installed: u64,
     remove: Vpkgs<'t>,
@@ -202,7 +214,7 @@ pub(crate) struct RequestLeft<'t> {
     ghost entered: { ForSome entry (λ _. 0 < upgraded) },
 }
 
-impl<'t> RequestLeft<'t> {
+impl<'t> RequestInstancesLeft<'t> {
     ghost use Rattle.std.specs.Prelude.{◌≡◌, ◌<◌, IfSome, List, [], filter, option_map};
     ghost use Rattle.std.specs.Iterator.{YieldsFirstBy};
     ghost use Rattle.cudf_problem.specs.Universe.{PlainRequest};
@@ -211,7 +223,7 @@ impl<'t> RequestLeft<'t> {
     ghost use Rattle.cudf_referee.specs.Instances.{PlainInstance};
     ghost use Rattle.cudf_referee.specs.Promises.Stops.{precedes};
     ghost use Rattle.cudf_referee.specs.Violations.{request_instances};
-    ghost use Rattle.cudf_referee.specs.Working.RequestLeft.{later, request_left_view, upgrades_view};
+    ghost use Rattle.cudf_referee.specs.Working.RequestInstancesLeft.{later, request_left_view, upgrades_view};
     ghost use Rattle.cudf_referee.specs.Working.RuleInstances.{upgrade_instance};
     ghost use Rattle.cudf_referee.specs.Working.Sought.{IsRest, Seeks};
     ghost use Rattle.cudf_referee.specs.Promises.Views.{instance_view};
@@ -221,7 +233,7 @@ impl<'t> RequestLeft<'t> {
     pub(crate) fn of(request: &Request<'t>) -> Self
         ensures { request_left_view (request_view request.now) result ≡ request_instances (request_view request.now) }
     {
-        RequestLeft {
+        RequestInstancesLeft {
             install: request.install.vpkgs(),
             installed: 0,
             remove: request.remove.vpkgs(),
@@ -232,12 +244,12 @@ impl<'t> RequestLeft<'t> {
         }
     }
 
-    /// None.
+    /// No instances: the request is passed.
     pub(crate) fn none() -> Self
         ensures { (r : PlainRequest) → request_left_view r result ≡ [] }
     {
         let none = VpkgList::empty();
-        RequestLeft {
+        RequestInstancesLeft {
             install: none.vpkgs(),
             installed: 0,
             remove: none.vpkgs(),
@@ -281,16 +293,16 @@ impl<'t> RequestLeft<'t> {
     {
         if let Some(vpkg) = self.install.next() {
             self.installed += 1;
-            let what = What::Install(vpkg);
+            let what = Requirement::Install(vpkg);
             return Some(Instance::of_request(request, Rule::Install, self.installed, None, what));
         }
         if let Some(vpkg) = self.remove.next() {
             self.removed += 1;
-            let what = What::Remove(vpkg);
+            let what = Requirement::Remove(vpkg);
             return Some(Instance::of_request(request, Rule::Remove, self.removed, None, what));
         }
         let (vpkg, aspect) = self.next_upgrade()?;
-        let what = What::Upgrade(vpkg);
+        let what = Requirement::Upgrade(vpkg);
         Some(Instance::of_request(request, Rule::Upgrade, self.upgraded, Some(aspect), what))
     }
 
@@ -302,7 +314,7 @@ impl<'t> RequestLeft<'t> {
         ensures remove { (self.new.remove ≡ self.old.remove) × (self.new.removed ≡ self.old.removed) }
     {
         if let Some((vpkg, aspect)) = self.entry {
-            self.entry = Self::later(vpkg, aspect);
+            self.entry = Self::next_aspect(vpkg, aspect);
             return Some((vpkg, aspect));
         }
         let vpkg = self.upgrade.next()?;
@@ -312,7 +324,7 @@ impl<'t> RequestLeft<'t> {
     }
 
     /// The aspects of an entry after one of them.
-    fn later(vpkg: Vpkg<'t>, aspect: Aspect) -> Option<(Vpkg<'t>, Aspect)>
+    fn next_aspect(vpkg: Vpkg<'t>, aspect: Aspect) -> Option<(Vpkg<'t>, Aspect)>
         ensures { result ≡ later vpkg.entry aspect }
     {
         match aspect {

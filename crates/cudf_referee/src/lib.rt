@@ -16,7 +16,7 @@ mod referee;
 mod rules;
 
 pub use cudf_job::{Aim, Aspect, Count, Criteria, Key, Part, Rule, Sign, compare, read_criterion};
-pub use instance::{Instance, InstanceFinder, ProblemInstances, What};
+pub use instance::{Instance, InstanceFinder, ProblemInstances, Requirement};
 pub use referee::{Explainer, Instances, Referee, Remedies, greatest_before};
 
 /// What follows from the definitions alone.

@@ -19,11 +19,11 @@ mod instances;
 mod needers;
 
 use crate::counting::{count_changes, count_unsatisfied};
-use crate::instance::{Instance, What};
+use crate::instance::{Instance, Requirement};
 use crate::referee::instances::number_at;
 use cudf_index::{Index, Steps};
 use cudf_job::{Criteria, Key, Part};
-use cudf_problem::{Keep, Package, Problem, Solution, Status, Unknown, initial};
+use cudf_problem::{InstalledPair, Keep, Package, Problem, Solution, Status, initial};
 use cudf_value::VpkgList;
 pub use explainer::{Explainer, Remedies};
 use indexmap::IndexMap;
@@ -68,7 +68,7 @@ impl<'p, 't> Model for Referee<'p, 't> {
 }
 
 /// For each package of the universe, whether its name is to be kept, and the status has a package of it.
-fn named_in(
+fn kept_name_flags(
     alloc: Global,
     problem: &Problem<'_>,
     status: &Index<'_, '_>,
@@ -152,7 +152,7 @@ impl<'p, 't> Referee<'p, 't> {
         // The lists that this needs are dropped before the index is built.
         let changes = count_changes(alloc, problem, &was_installed, &solution.status)?;
         let now = Index::build(alloc, problem, &solution.status)?;
-        let named = named_in(alloc, problem, &now)?;
+        let named = kept_name_flags(alloc, problem, &now)?;
         let criteria = Criteria {
             unsat_recommends: count_unsatisfied(problem, &solution.status, &now),
             ..changes
@@ -257,11 +257,11 @@ impl<'p, 't> Referee<'p, 't> {
         ensures { result ≡ met_by self.entry.now.proposed (instance_view instance.now) }
     {
         match instance.what {
-            What::ConflictsWith(vpkg) => {
+            Requirement::ConflictsWith(vpkg) => {
                 let own = own_place(instance.key.part());
                 self.now.first_meeting(&vpkg, own)
             }
-            What::Remove(vpkg) => self.now.first_meeting(&vpkg, None),
+            Requirement::Remove(vpkg) => self.now.first_meeting(&vpkg, None),
             _ => None,
         }
     }
@@ -337,7 +337,10 @@ impl<'t> NumberedNames<'t> {
 }
 
 /// The numbers of all names that the initial status gives.
-fn numbered<'t>(alloc: Global, problem: &Problem<'t>) -> Result<NumberedNames<'t>, AllocError>
+fn initial_numbers<'t>(
+    alloc: Global,
+    problem: &Problem<'t>,
+) -> Result<NumberedNames<'t>, AllocError>
     ensures { IfOk result (λ kept. (f : List ℕ) → kept_greatest f kept ≡ with_pairs f (gives (members (is_initial problem.now) problem.now.packages)) None) }
 {
     let mut kept = NumberedNames::new(alloc);
@@ -364,7 +367,7 @@ pub fn greatest_before(alloc: Global, problem: &Problem<'_>) -> Result<Vec<Optio
     if count == 0 {
         return Ok(before);
     }
-    let names = numbered(alloc, problem)?;
+    let names = initial_numbers(alloc, problem)?;
     for entry in upgrade.vpkgs() {
         before.push(names.find(entry.name))?;
     }
@@ -372,7 +375,7 @@ pub fn greatest_before(alloc: Global, problem: &Problem<'_>) -> Result<Vec<Optio
 }
 
 /// The numbers of stanzas that ascend are those of a `u64`, since the last one is.
-fn number_stanzas(unknown: &[Unknown<'_>])
+fn do_stanza_numbers_fit(unknown: &[InstalledPair<'_>])
     requires { IsTrue (ascend_above 0 (map unknown_view unknown.now)) }
     ensures { All (λ u. u.stanza < 2 ^ 64) (map unknown_view unknown.now) }
 {
@@ -393,5 +396,5 @@ pub(super) fn keys_can_be_written(problem: &Problem<'_>, solution: &Solution<'_>
     // for the prover: slices, so their lengths fit
     let _packages = problem.packages();
     let _request = problem.request();
-    number_stanzas(solution.unknown.as_slice());
+    do_stanza_numbers_fit(solution.unknown.as_slice());
 }

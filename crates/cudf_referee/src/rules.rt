@@ -16,8 +16,8 @@ ghost use Rattle.cudf_referee.specs.Violations.{are_many, are_lower, is_aspect_v
 ghost use Rattle.cudf_referee.specs.Working.Located.{IsLocated};
 ghost use Rattle.cudf_referee.specs.Working.Walkers.{put_forward, Agrees};
 
-use crate::instance::{Instance, What};
-use cudf_index::{Metered, Steps};
+use crate::instance::{Instance, Requirement};
+use cudf_index::{MeteredIndex, Steps};
 use cudf_job::{Aspect, Key, Part};
 use cudf_problem::Status;
 use cudf_value::Vpkg;
@@ -36,7 +36,7 @@ pub(crate) struct ProposalFacts<'r> {
 /// Whether an instance is violated.
 #[inline(always)]
 pub(crate) fn is_violated(
-    now: &mut Metered<'_, '_, '_>,
+    now: &mut MeteredIndex<'_, '_, '_>,
     known: ProposalFacts<'_>,
     instance: &Instance<'_>,
     steps: &mut Steps,
@@ -50,15 +50,24 @@ pub(crate) fn is_violated(
     ensures status { now.new.status ≡ now.old.status }
 {
     match instance.what {
-        What::Needs(clause) => !now.satisfies_clause_counted(&clause),
-        What::ConflictsWith(vpkg) => now.satisfies_without_counted(&vpkg, place_of(instance.key)),
-        What::KeepVersion => !known.status.holds(place_of(instance.key)),
-        What::KeepPackage => !flag_at(known.named, place_of(instance.key)),
-        What::KeepFeature(vpkg) => !now.satisfies_counted(&vpkg),
-        What::Install(vpkg) => !now.satisfies_counted(&vpkg),
-        What::Remove(vpkg) => now.satisfies_counted(&vpkg),
-        What::Upgrade(vpkg) => is_aspect_violated(now, known.before, instance.key, &vpkg, steps),
-        What::Unknown => true,
+        Requirement::Needs(clause) => !now.satisfies_clause_counted(&clause),
+        Requirement::ConflictsWith(vpkg) => now.satisfies_without_counted(
+            &vpkg,
+            place_of(instance.key),
+        ),
+        Requirement::KeepVersion => !known.status.holds(place_of(instance.key)),
+        Requirement::KeepPackage => !flag_at(known.named, place_of(instance.key)),
+        Requirement::KeepFeature(vpkg) => !now.satisfies_counted(&vpkg),
+        Requirement::Install(vpkg) => !now.satisfies_counted(&vpkg),
+        Requirement::Remove(vpkg) => now.satisfies_counted(&vpkg),
+        Requirement::Upgrade(vpkg) => is_aspect_violated(
+            now,
+            known.before,
+            instance.key,
+            &vpkg,
+            steps,
+        ),
+        Requirement::Unknown => true,
     }
 }
 
@@ -84,7 +93,7 @@ fn flag_at(flags: &[bool], place: u64) -> bool
 
 /// Whether an entry of `upgrade` is violated in the way of the key's aspect.
 fn is_aspect_violated(
-    now: &mut Metered<'_, '_, '_>,
+    now: &mut MeteredIndex<'_, '_, '_>,
     before: &[Option<u64>],
     key: Key,
     vpkg: &Vpkg<'_>,
@@ -119,7 +128,7 @@ fn number_before(before: &[Option<u64>], number: u64, steps: &mut Steps) -> Opti
 }
 
 /// Whether the status gives two different numbers of the name.
-fn has_many(now: &mut Metered<'_, '_, '_>, name: &str) -> bool
+fn has_many(now: &mut MeteredIndex<'_, '_, '_>, name: &str) -> bool
     ensures answer { result ≡ are_many (numbers_of name.now now.old.status) }
     ensures status { now.new.status ≡ now.old.status }
     ensures price { now.new.steps ≤ now.old.steps + 4 }
@@ -132,7 +141,7 @@ fn has_many(now: &mut Metered<'_, '_, '_>, name: &str) -> bool
 }
 
 /// Whether the status gives a number of the name below the greatest one before.
-fn has_lower(now: &mut Metered<'_, '_, '_>, greatest: Option<u64>, name: &str) -> bool
+fn has_lower(now: &mut MeteredIndex<'_, '_, '_>, greatest: Option<u64>, name: &str) -> bool
     ensures answer { (before : List ℕ) → IsGreatest before greatest → result ≡ are_lower before (numbers_of name.now now.old.status) }
     ensures status { now.new.status ≡ now.old.status }
     ensures price { now.new.steps ≤ now.old.steps + 2 }

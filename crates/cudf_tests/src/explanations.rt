@@ -40,8 +40,8 @@ fn helps(explainer: &Explainer<'_, '_, '_>) -> bool {
     let remedies = explainer.remedies();
     let mut place = 0;
     for instance in explainer.referee().instances() {
-        let does = Some(&remedies.would_do(&instance));
-        let was = Some(&remedies.was_installed(&instance));
+        let does = Some(&remedies.first_remedy(&instance));
+        let was = Some(&remedies.installed_remedy(&instance));
         if (WOULD_DO.get(place), WAS_INSTALLED.get(place)) != (does, was) {
             return false;
         }

@@ -1,7 +1,7 @@
 //! Calls of values that no vector of `cudf_rows` makes.
 use crate::table::{Answer, assert_rows, expect};
 use cudf_value::{
-    Relop, ValueType, declaration_pieces, is_pkgname, laws, misfit, read_declaration,
+    Relop, ValueType, declaration_pieces, first_invalid_entry, is_pkgname, laws, read_declaration,
     read_declarations,
 };
 use std::alloc::Global;
@@ -80,10 +80,10 @@ const MISFITS: [Misfit; 6] = [
 
 fn has_misfits(_: Global, row: &Misfit) -> Answer {
     Ok(
-        misfit(&ValueType::Formula, row.0) == row.1
-            && misfit(&ValueType::List, row.0) == row.2
-            && misfit(&ValueType::ExactList, row.0) == row.3
-            && misfit(&ValueType::Signed, row.0).is_none(),
+        first_invalid_entry(&ValueType::Formula, row.0) == row.1
+            && first_invalid_entry(&ValueType::List, row.0) == row.2
+            && first_invalid_entry(&ValueType::ExactList, row.0) == row.3
+            && first_invalid_entry(&ValueType::Signed, row.0).is_none(),
     )
 }
 

@@ -5,7 +5,7 @@ use Rattle.std.specs.List.{filter_map, cons_option, slice_split, onto_first}
 use Rattle.std.proofs.lemmas.List.{length-map}
 use Rattle.std.proofs.lemmas.List.FromFn.{length-enumerate_from}
 use Rattle.std.proofs.lemmas.List.Sums.{length-filter, count_by-le-length}
-use Rattle.cudf_text.specs.declared.cursor.Place.{Place}
+use Rattle.cudf_text.specs.declared.cursor.ReadPosition.{ReadPosition}
 use Rattle.cudf_text.specs.declared.fault.Fault.{Fault}
 use Rattle.cudf_text.specs.Lines.{Class, blank, class, line_text, lines, raw_lines, is_lf, is_blank_line, is_no_comment, NumberedLine}
 use Rattle.cudf_text.specs.Working.Left.{numbered_from, left, text_left, IsCounted}
@@ -79,7 +79,7 @@ left_few None n text =
     let raw = raw_few text in
     omega arith
 
-pub few_left : (c : Place) → IsCounted c → length (plain_of (text_left c)).stanzas < 2 ^ 64
+pub few_left : (c : ReadPosition) → IsCounted c → length (plain_of (text_left c)).stanzas < 2 ^ 64
 few_left c counted =
     let few = left_few c.fault (c.lines + 1) c.rest.now in
     let plain : length (plain_of (text_left c)).stanzas ≡ length (left c.fault (numbered_from (c.lines + 1) c.rest.now)).0 = length-map (text_left c).stanzas plain_stanza in

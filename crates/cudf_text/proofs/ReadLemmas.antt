@@ -1,7 +1,7 @@
 -- What a cursor has read after each line.
 use Rattle.std.proofs.Common.{◌≡◌, ℕ, ◌+◌, ◌≤◌, Bool, true, false, not, is_some, List, [], ◌∷◌, length, map, Option, Some, None, refl, sym, ap, ◌∙◌, arith}
 use Rattle.std.specs.List.{enumerate_from}
-use Rattle.cudf_text.specs.declared.cursor.Place.{Place}
+use Rattle.cudf_text.specs.declared.cursor.ReadPosition.{ReadPosition}
 use Rattle.cudf_text.specs.declared.fault.Fault.{Fault}
 use Rattle.cudf_text.specs.Lines.{class, lines, NumberedLine}
 use Rattle.cudf_text.specs.Working.Left.{left, numbered_from, text_left}
@@ -10,7 +10,7 @@ use Rattle.cudf_text.specs.Working.Steps.{State, open_state, step}
 use Rattle.cudf_text.proofs.RunLemmas.{outcome, closed_is, state}
 
 -- from the first place the lines up to the other were read, and this is what they gave
-pub record SoFar (start : Place) (s : State) (place : Place) : Type 0 where
+pub record SoFar (start : ReadPosition) (s : State) (place : ReadPosition) : Type 0 where
   pub run : ◌≡◌ {A = List TrackedStanza × Option Fault} (outcome s place.fault (numbered_from (place.lines + 1) place.rest.now)) (left start.fault (numbered_from (start.lines + 1) start.rest.now))
   pub count : place.lines + length (lines place.rest.now) ≡ start.lines + length (lines start.rest.now)
   pub bound : place.lines + length place.rest.now ≤ start.lines + length start.rest.now
@@ -19,7 +19,7 @@ left-start : (last : ℕ) (fault : Option Fault) (ls : List NumberedLine) → �
 left-start last None ls = closed_is [] last ls
 left-start last (Some f) ls = refl
 
-pub SoFar-start : (place : Place) (ps : List TrackedProperty) → ps ≡ [] → SoFar place (open_state ps 0) place
+pub SoFar-start : (place : ReadPosition) (ps : List TrackedProperty) → ps ≡ [] → SoFar place (open_state ps 0) place
 SoFar-start place ps none = record {
   run = ap (λ (qs : List TrackedProperty). outcome (open_state qs 0) place.fault (numbered_from (place.lines + 1) place.rest.now)) none
       ∙ left-start 0 place.fault (numbered_from (place.lines + 1) place.rest.now);
@@ -28,7 +28,7 @@ SoFar-start place ps none = record {
 }
 
 -- a line has ended a stanza, which comes before what is left
-pub SoFar-stanza : (start place : Place) (s : State) (line rest : List ℕ) (st : TrackedStanza) (last : ℕ) → SoFar start s place → place.fault ≡ None → lines place.rest.now ≡ line ∷ lines rest
+pub SoFar-stanza : (start place : ReadPosition) (s : State) (line rest : List ℕ) (st : TrackedStanza) (last : ℕ) → SoFar start s place → place.fault ≡ None → lines place.rest.now ≡ line ∷ lines rest
     → ◌≡◌ {A = State × Option Fault} (step s (place.lines + 1) (class line)) (state (st ∷ []) [] last, None)
     → let t : TrackedText = record { stanzas = st ∷ (left place.fault (numbered_from (place.lines + 1 + 1) rest)).0; fault = (left place.fault (numbered_from (place.lines + 1 + 1) rest)).1; lines = place.lines + 1 + length (lines rest) } in
     text_left start ≡ t

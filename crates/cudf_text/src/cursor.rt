@@ -14,7 +14,7 @@ use std::alloc::{AllocError, Global};
 use std::fmt;
 use std::marker::Model;
 
-/// What a cursor answers.
+/// What `Stanzas::next` returns: the next stanza, or the end of the text.
 #[derive(Clone, Copy)]
 pub enum Next {
     /// A stanza, by the line of its first property and its last line.
@@ -27,7 +27,7 @@ pub enum Next {
 /// into the room; each other one is a part of the source.
 #[derive(Drop)]
 pub struct Stanzas<'t> {
-    place: Place<'t>,
+    place: ReadPosition<'t>,
     /// The properties of the last stanza that was read, from the first that was continued on.
     others: Vec<Property<'t>>,
     texts: Texts<'t>,
@@ -55,7 +55,7 @@ impl<'t> Stanzas<'t> {
         ensures { result ≡ plain_text source.now }
     {
         Stanzas {
-            place: Place::start(source),
+            place: ReadPosition::start(source),
             others: Vec::new(alloc),
             texts: Texts::new(room),
         }
@@ -132,7 +132,7 @@ impl fmt::Debug for Stanzas<'_> {
 
 /// How far a text was read.
 #[derive(Clone, Copy)]
-pub(crate) struct Place<'a> {
+pub(crate) struct ReadPosition<'a> {
     /// The lines that are left.
     rest: &'a str,
     /// How many lines were read.
@@ -141,7 +141,7 @@ pub(crate) struct Place<'a> {
     fault: Option<Fault>,
 }
 
-impl<'a> Place<'a> {
+impl<'a> ReadPosition<'a> {
     ghost use Rattle.std.specs.Prelude.{◌≡◌};
     ghost use Rattle.cudf_text.specs.Working.Left.{text_left, IsCounted};
     ghost use Rattle.cudf_text.specs.Working.Tracked.{whole};
@@ -151,7 +151,7 @@ impl<'a> Place<'a> {
         ensures left { text_left result ≡ whole source.now }
         ensures counted { IsCounted result }
     {
-        Place {
+        ReadPosition {
             rest: source,
             lines: 0,
             fault: None,
@@ -159,14 +159,14 @@ impl<'a> Place<'a> {
     }
 }
 
-/// Reads the next stanza into the lists, in place of what was there: as parts the properties before the first
-/// that is continued, and then the others.
+/// Reads the next stanza, and returns it or the end with the position behind it. Replaces the contents of both lists:
+/// `parts` gets the properties before the first that has a continuation, `others` that one and those after it.
 pub(crate) fn read_stanza<'a>(
     alloc: Global,
-    place: Place<'a>,
+    place: ReadPosition<'a>,
     parts: &mut Vec<PropertyRef<'a>>,
     others: &mut Vec<Property<'a>>,
-) -> Result<(Next, Place<'a>), AllocError>
+) -> Result<(Next, ReadPosition<'a>), AllocError>
     requires { IsCounted place }
     ensures read { IfOk result (λ r.
         text_left place.entry ≡ with_tracked r.0 (tracked_properties parts.new.items others.new.items) (text_left r.1)) }
@@ -236,14 +236,14 @@ fn take<'a>(
             Some(first) => Ok(StanzaState::End(first)),
             None => Ok(StanzaState::On),
         },
-        Line::Continuation(text) => take_continuation(alloc, parts, others, last, number, text),
+        Line::Continuation(text) => add_continuation(alloc, parts, others, last, number, text),
         Line::Named(name, text) => {
             let part = PropertyRef {
                 line: number,
                 name,
                 value: text,
             };
-            take_property(parts, others, last, part)
+            add_property(parts, others, last, part)
         }
         Line::Faulty => {
             *last = number;
@@ -253,7 +253,7 @@ fn take<'a>(
 }
 
 /// Takes a continuation of this text.
-fn take_continuation<'a>(
+fn add_continuation<'a>(
     alloc: Global,
     parts: &mut Vec<PropertyRef<'a>>,
     others: &mut Vec<Property<'a>>,
@@ -274,7 +274,7 @@ fn take_continuation<'a>(
 }
 
 /// Takes a line with a property's name.
-fn take_property<'a>(
+fn add_property<'a>(
     parts: &mut Vec<PropertyRef<'a>>,
     others: &mut Vec<Property<'a>>,
     last: &mut u64,

@@ -91,14 +91,14 @@ pub(crate) fn classify(line: &str) -> Line<'_>
     if first == b'#' {
         Line::Comment
     } else if Class::Blank.has(first) {
-        indented(trim(line))
+        classify_indented(trim(line))
     } else {
         name_line(line)
     }
 }
 
 /// A line that begins with a blank, or is empty, by its trimmed text.
-fn indented(text: &str) -> Line<'_>
+fn classify_indented(text: &str) -> Line<'_>
     ensures { line_view result ≡ (if length text.now == 0 then blank else continuation text.now) }
 {
     if text.is_empty() {
@@ -154,7 +154,7 @@ pub(crate) fn continue_last<'a>(
     continue_property(alloc, others, text)
 }
 
-/// Puts the last property among the others.
+/// Moves the last property of `parts` into `others`, where its value can grow, unless `others` has properties already.
 fn move_last<'a>(
     parts: &mut Vec<PropertyRef<'a>>,
     others: &mut Vec<Property<'a>>,
@@ -173,7 +173,7 @@ fn move_last<'a>(
     Ok(())
 }
 
-/// Adds one more text to the value of the last of these.
+/// Appends a text to the value of the last property of the list; does nothing if the list is empty.
 fn continue_property<'a>(
     alloc: Global,
     properties: &mut Vec<Property<'a>>,

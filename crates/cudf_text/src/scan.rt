@@ -76,7 +76,7 @@ pub(crate) fn run_len(bytes: &[u8], class: Class) -> usize
     }
 }
 
-/// The same, four bytes in a turn.
+/// How many bytes of the class are at the front, tested four at a time.
 #[inline(always)]
 fn long_run_len(bytes: &[u8], class: Class) -> usize
     ensures inside { result ≤ length bytes.now }
@@ -148,11 +148,11 @@ pub fn trim(text: &str) -> &str
     ensures { result.now ≡ trim text.now }
 {
     let text = trim_start(text);
-    before(text, end_of_text(text.as_bytes()))
+    before(text, trimmed_len(text.as_bytes()))
 }
 
 /// Where the blanks at the end begin.
-fn end_of_text(bytes: &[u8]) -> usize
+fn trimmed_len(bytes: &[u8]) -> usize
     ensures inside { result ≤ length bytes.now }
     ensures value { result ≡ length bytes.now - suffix_len is_blank bytes.now }
     ensures ascii { result < length bytes.now → slice_index bytes.now result < 128 }

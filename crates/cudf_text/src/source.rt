@@ -174,7 +174,7 @@ fn empty_texts(alloc: Global, count: usize) -> Result<Vec<String>, AllocError>
     Ok(texts)
 }
 
-/// Makes this the same stanza: its values are those that the other one holds.
+/// Makes `lent` a copy of `stanza` whose values borrow from it.
 ///
 /// # Errors
 ///
@@ -187,7 +187,7 @@ pub fn lend<'t, 'a>(stanza: &'t Stanza<'a>, lent: &mut StanzaRef<'t>) -> Result<
     lend_properties(&stanza.properties, &mut lent.properties)
 }
 
-/// Puts the same properties in the place of these.
+/// Replaces the contents of `lent` by these properties, with borrowed values.
 fn lend_properties<'t, 'a>(
     properties: &'t [Property<'a>],
     lent: &mut Vec<PropertyRef<'t>>,
@@ -206,7 +206,7 @@ fn lend_properties<'t, 'a>(
     Ok(())
 }
 
-/// Moves the properties after these; a value that is a text of its own goes into the room.
+/// Moves all properties behind those of `kept`; a value that owns its text is stored in the room.
 pub(crate) fn keep_properties<'t>(
     alloc: Global,
     properties: &mut Vec<Property<'t>>,

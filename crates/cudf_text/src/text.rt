@@ -11,7 +11,7 @@ ghost use Rattle.cudf_text.specs.Joined.{behind, problem_part, solution_part, is
 ghost use Rattle.cudf_text.specs.Lines.{raw_lines};
 ghost use Rattle.cudf_text.specs.Working.Marks.{marks};
 
-use crate::cursor::{Next, Place, read_stanza};
+use crate::cursor::{Next, ReadPosition, read_stanza};
 use crate::fault::Fault;
 use crate::line::{first_line, line_end, owned};
 use crate::scan::{Class, are_all, first_byte, trim};
@@ -70,7 +70,7 @@ pub struct StanzaRef<'t> {
     pub properties: Vec<PropertyRef<'t>>,
 }
 
-/// A property of such a stanza.
+/// A property whose value is borrowed.
 #[derive(Clone, Copy)]
 pub struct PropertyRef<'t> {
     /// The line of the name, from 1.
@@ -148,7 +148,7 @@ fn read_text<'a>(alloc: Global, source: &'a str) -> Result<Text<'a>, AllocError>
     ensures text { IfOk result (λ t. text_view t ≡ plain_text source.now) }
     ensures borrowed { IfOk result (λ t. owned_values t ≡ joined_values source.now) }
 {
-    let mut place = Place::start(source);
+    let mut place = ReadPosition::start(source);
     let mut stanzas = Vec::new(alloc);
     let mut parts = Vec::new(alloc);
     let mut others = Vec::new(alloc);
@@ -250,7 +250,7 @@ pub fn is_fail(text: &str) -> bool
 {
     let mut rest = text;
     while let Some((line, after)) = first_line(rest) {
-        if says_something(line) {
+        if is_significant(line) {
             return trim(line) == "FAIL";
         }
         rest = after;
@@ -258,7 +258,7 @@ pub fn is_fail(text: &str) -> bool
     false
 }
 
-fn says_something(line: &str) -> bool
+fn is_significant(line: &str) -> bool
     ensures { result ≡ says_something line.now }
 {
     !(are_all(line.as_bytes(), Class::Blank) || first_byte(line) == b'#')

@@ -3,8 +3,8 @@
 #![tactic(auto)]
 
 pub use cudf_document::{
-    Keep, Mode, NameRoom, Package, Problem, Proposed, ReadError, Request, Solution, Status,
-    Unknown, first_fault, initial, problem_of, proposed_of, read_problem, read_solution,
+    InstalledPair, Keep, Mode, NameRoom, Package, Problem, Proposed, ReadError, Request, Solution,
+    Status, first_fault, initial, problem_of, proposed_of, read_problem, read_solution,
     solution_of,
 };
-pub use cudf_index::{Index, Metered, Providers, Steps, laws};
+pub use cudf_index::{Index, MeteredIndex, Providers, Steps, laws};

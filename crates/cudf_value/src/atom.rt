@@ -5,7 +5,7 @@ ghost use Rattle.cudf_value.specs.Lists.{atoms_in};
 ghost use Rattle.cudf_value.specs.Promises.Views.{atom_view};
 ghost use Rattle.cudf_value.specs.Working.Atoms.{atom_part, ends_atom, is_inside, end_text, end_rest, values, values_of};
 
-use crate::vpkg::{Vpkg, vpkg_at, vpkg_of};
+use crate::vpkg::{Vpkg, parse_vpkg, split_vpkg};
 use cudf_text::scan::{after, before};
 use cudf_text::trim;
 
@@ -64,12 +64,12 @@ pub(crate) fn first_atom(text: &str) -> (Option<Atom<'_>>, AtomEnd<'_>)
     ensures values { values text.now ≡ values_of (option_map atom_view result.0) result.1 }
     ensures shorter { IfSome (end_rest result.1) (λ rest. length rest < length text.now) }
 {
-    if let Some((vpkg, rest)) = vpkg_at(text) {
+    if let Some((vpkg, rest)) = split_vpkg(text) {
         if let Some(end) = end_at(rest) {
             return (Some(Atom::Is(vpkg)), end);
         }
     }
-    other_atom(text)
+    first_atom_slow(text)
 }
 
 /// The first atom of a judged clause, and what follows its bar.
@@ -96,14 +96,15 @@ fn end_at(text: &str) -> Option<AtomEnd<'_>>
     }
 }
 
-/// The first atom, whatever it is. What it calls isn't inlined: no value of the way beside it is put into memory.
+/// The first atom, of any form, and what ends it; `None` where the text before the end is no atom. Its callees aren't
+/// inlined, so that the fast path of `first_atom` stays in registers.
 #[inline(always)]
-fn other_atom(text: &str) -> (Option<Atom<'_>>, AtomEnd<'_>)
+fn first_atom_slow(text: &str) -> (Option<Atom<'_>>, AtomEnd<'_>)
     ensures values { values text.now ≡ values_of (option_map atom_view result.0) result.1 }
     ensures shorter { IfSome (end_rest result.1) (λ rest. length rest < length text.now) }
 {
     let (part, end) = cut_atom(text);
-    (atom_of(part), end)
+    (read_atom(part), end)
 }
 
 /// The text of the first atom, and what ends it.
@@ -142,12 +143,12 @@ fn end_from(text: &str, n: usize) -> AtomEnd<'_>
 
 /// The atom, with blanks or none round it.
 #[inline(never)]
-pub(crate) fn atom_of(part: &str) -> Option<Atom<'_>>
+pub(crate) fn read_atom(part: &str) -> Option<Atom<'_>>
     ensures { option_map atom_view result ≡ atom_part part.now }
 {
     match trim(part) {
         "true!" => Some(Atom::Yes),
         "false!" => Some(Atom::No),
-        text => vpkg_of(text).map(Atom::Is),
+        text => parse_vpkg(text).map(Atom::Is),
     }
 }

@@ -56,21 +56,21 @@ pub fn read_declarations(
 ) -> Result<Option<Vec<Declaration<'_>>>, AllocError>
     ensures { IfOk result (λ r. option_map (λ v. map declaration_view v.items) r ≡ declarations (trim text.now)) }
 {
-    declarations_of(alloc, trim(text))
+    parse_declarations(alloc, trim(text))
 }
 
 #[tactic(auto, unfolding(crate::specs::Declarations::declarations))]
-fn declarations_of(alloc: Global, text: &str) -> Result<Option<Vec<Declaration<'_>>>, AllocError>
+fn parse_declarations(alloc: Global, text: &str) -> Result<Option<Vec<Declaration<'_>>>, AllocError>
     ensures { IfOk result (λ r. option_map (λ v. map declaration_view v.items) r ≡ declarations text.now) }
 {
     if text.is_empty() {
         return Ok(Some(Vec::new(alloc)));
     }
-    pieces_of(alloc, text)
+    read_pieces(alloc, text)
 }
 
 /// The declarations of the pieces, one at least.
-fn pieces_of(alloc: Global, text: &str) -> Result<Option<Vec<Declaration<'_>>>, AllocError>
+fn read_pieces(alloc: Global, text: &str) -> Result<Option<Vec<Declaration<'_>>>, AllocError>
     ensures { IfOk result (λ r. option_map (λ v. map declaration_view v.items) r ≡ read_pieces declaration_piece text.now) }
 {
     let mut declarations = Vec::new(alloc);
@@ -139,7 +139,7 @@ pub fn read_declaration(alloc: Global, piece: &str) -> Result<Option<Declaration
     if !is_ident(name) || first_byte(rest) != b':' {
         return Ok(None);
     }
-    match type_of(alloc, trim_start(after(rest, 1)))? {
+    match parse_type(alloc, trim_start(after(rest, 1)))? {
         Some((kind, rest)) => Ok(with_kind(name, kind, trim_start(rest))),
         None => Ok(None),
     }
@@ -172,7 +172,7 @@ fn with_kind<'t>(name: &'t str, kind: ValueType<'t>, rest: &'t str) -> Option<De
 }
 
 /// The type at the front of the text, and what follows it.
-pub(crate) fn type_of(
+pub(crate) fn parse_type(
     alloc: Global,
     text: &str,
 ) -> Result<Option<(ValueType<'_>, &str)>, AllocError>
@@ -180,7 +180,7 @@ pub(crate) fn type_of(
 {
     let (word, rest) = split_run(text, Class::Letter);
     if word == "enum" {
-        return enum_of(alloc, trim_start(rest));
+        return parse_enum(alloc, trim_start(rest));
     }
     Ok(match kind_of_word(word) {
         Some(kind) => Some((kind, rest)),
@@ -210,7 +210,7 @@ fn kind_of_word<'t>(word: &str) -> Option<ValueType<'t>>
 }
 
 /// The enum of the idents in the brackets at the front, and what follows them.
-fn enum_of(alloc: Global, text: &str) -> Result<Option<(ValueType<'_>, &str)>, AllocError>
+fn parse_enum(alloc: Global, text: &str) -> Result<Option<(ValueType<'_>, &str)>, AllocError>
     ensures { IfOk result (λ r. option_map (λ found. (type_view found.0, found.1.now)) r ≡ enum_at text.now) }
 {
     if first_byte(text) != b'[' {
@@ -220,21 +220,21 @@ fn enum_of(alloc: Global, text: &str) -> Result<Option<(ValueType<'_>, &str)>, A
     let Some(n) = find(inside.as_bytes(), b']') else {
         return Ok(None);
     };
-    Ok(match idents_of(alloc, before(inside, n))? {
+    Ok(match parse_idents(alloc, before(inside, n))? {
         Some(idents) => Some((ValueType::Choice(idents), after(inside, n + 1))),
         None => None,
     })
 }
 
 /// The idents between commas, one at least.
-fn idents_of(alloc: Global, text: &str) -> Result<Option<Vec<&str>>, AllocError>
+fn parse_idents(alloc: Global, text: &str) -> Result<Option<Vec<&str>>, AllocError>
     ensures { IfOk result (λ r. option_map (λ v. map (λ ident. ident.now) v.items) r ≡ read_parts (byte ",") ident_part text.now) }
 {
     let mut idents = Vec::new(alloc);
     let mut rest = text;
     loop {
         let (part, next) = cut(rest, b',');
-        match ident_of(part) {
+        match read_ident(part) {
             Some(ident) => idents.push(ident)?,
             None => return Ok(None),
         }
@@ -246,14 +246,14 @@ fn idents_of(alloc: Global, text: &str) -> Result<Option<Vec<&str>>, AllocError>
 }
 
 /// The ident, with blanks or none round it.
-fn ident_of(part: &str) -> Option<&str>
+fn read_ident(part: &str) -> Option<&str>
     ensures { option_copied result ≡ ident_part part.now }
 {
     let text = trim(part);
     if is_ident(text) { Some(text) } else { None }
 }
 
-/// The text without brackets round it.
+/// The trimmed text between `[` and `]` where the text begins and ends with these, otherwise the text.
 pub(crate) fn without_brackets(text: &str) -> &str
     ensures { result.now ≡ without_brackets text.now }
 {

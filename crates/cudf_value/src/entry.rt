@@ -8,7 +8,7 @@ ghost use Rattle.cudf_value.specs.Working.Rests.{parts_after};
 ghost use Rattle.cudf_value.specs.Working.Entries.{vpkg_part, first_part, ends_entry, entry_end};
 
 use crate::number::cut;
-use crate::vpkg::{Vpkg, is_exact, veqpkg_of, vpkg_at, vpkg_of};
+use crate::vpkg::{Vpkg, is_exact, parse_veqpkg, parse_vpkg, split_vpkg};
 use cudf_text::scan::{after, first_byte};
 use cudf_text::trim;
 
@@ -20,12 +20,12 @@ pub(crate) fn first_entry(text: &str, exact: bool) -> (Option<Vpkg<'_>>, Option<
     ensures entry { option_map vpkg_view result.0 ≡ vpkg_part exact (first_part text.now) }
     ensures shorter { IfSome result.1 (λ rest. length rest.now < length text.now) }
 {
-    if let Some((vpkg, rest)) = vpkg_at(text) {
+    if let Some((vpkg, rest)) = split_vpkg(text) {
         if ends_entry(rest) {
             return (exact_where_asked(vpkg, exact), after_comma(rest));
         }
     }
-    other_entry(text, exact)
+    first_entry_slow(text, exact)
 }
 
 /// The vpkg, where it is exact or needn't be.
@@ -58,26 +58,27 @@ fn after_comma(text: &str) -> Option<&str>
     }
 }
 
-/// The first entry, whatever it is. What reads it isn't inlined, as in `other_atom`.
+/// The first entry, of any form, and what follows its comma; `None` where the text before the comma is no vpkg. Its
+/// callee isn't inlined, so that `first_entry` stays fast.
 #[inline(always)]
-fn other_entry(text: &str, exact: bool) -> (Option<Vpkg<'_>>, Option<&str>)
+fn first_entry_slow(text: &str, exact: bool) -> (Option<Vpkg<'_>>, Option<&str>)
     ensures part { parts (byte ",") text.now ≡ first_part text.now ∷ parts_after (byte ",") (option_copied result.1) }
     ensures entry { option_map vpkg_view result.0 ≡ vpkg_part exact (first_part text.now) }
     ensures shorter { IfSome result.1 (λ rest. length rest.now < length text.now) }
 {
     let (part, next) = cut(text, b',');
-    (entry_of(part, exact), next)
+    (read_entry(part, exact), next)
 }
 
 /// The vpkg or veqpkg, with blanks or none round it.
 #[inline(never)]
-fn entry_of(part: &str, exact: bool) -> Option<Vpkg<'_>>
+fn read_entry(part: &str, exact: bool) -> Option<Vpkg<'_>>
     ensures { option_map vpkg_view result ≡ vpkg_part exact part.now }
 {
     let text = trim(part);
     if exact {
-        veqpkg_of(text)
+        parse_veqpkg(text)
     } else {
-        vpkg_of(text)
+        parse_vpkg(text)
     }
 }

@@ -27,7 +27,7 @@ pub use number::{is_pkgname, read_bool, read_int, read_nat, read_posint};
 pub use value_type::{ValueType, fits, is_of_type};
 pub use vpkg::{Relop, Vpkg, meets, read_veqpkg, read_vpkg};
 pub use vpkglist::reading::{read_veqpkglist, read_vpkglist};
-pub use vpkglist::{VpkgList, Vpkgs, misfit};
+pub use vpkglist::{VpkgList, Vpkgs, first_invalid_entry};
 
 /// Laws over the definitions alone, each the contract of a function without effect.
 pub mod laws {

@@ -17,7 +17,7 @@ use cudf_text::trim;
 pub fn read_posint(text: &str) -> Option<u64>
     ensures { result ≡ positive (trim text.now) }
 {
-    posint_of(trim(text))
+    parse_posint(trim(text))
 }
 
 /// Reads a `nat` (CUDF 2.0, the type library), with blanks or none round it: an optional `+`, then digits, of a value
@@ -27,7 +27,7 @@ pub fn read_posint(text: &str) -> Option<u64>
 pub fn read_nat(text: &str) -> Option<u64>
     ensures { result ≡ natural (trim text.now) }
 {
-    nat_of(trim(text))
+    parse_nat(trim(text))
 }
 
 /// Reads an `int` (CUDF 2.0, the type library), with blanks or none round it: an optional `+` or `-`, then digits, of a
@@ -37,23 +37,26 @@ pub fn read_nat(text: &str) -> Option<u64>
 pub fn read_int(text: &str) -> Option<i64>
     ensures { result ≡ signed (trim text.now) }
 {
-    int_of(trim(text))
+    parse_int(trim(text))
 }
 
+/// The value of a `posint` without blanks round it; `None` if the text is none.
 #[tactic(auto, unfolding(crate::specs::Numbers::positive))]
-pub(crate) fn posint_of(text: &str) -> Option<u64>
+pub(crate) fn parse_posint(text: &str) -> Option<u64>
     ensures { result ≡ positive text.now }
 {
-    nat_of(text).filter(|n| 0 < *n)
+    parse_nat(text).filter(|n| 0 < *n)
 }
 
-pub(crate) fn nat_of(text: &str) -> Option<u64>
+/// The value of a `nat` without blanks round it; `None` if the text is none.
+pub(crate) fn parse_nat(text: &str) -> Option<u64>
     ensures { result ≡ natural text.now }
 {
     text.parse::<u64>().ok()
 }
 
-pub(crate) fn int_of(text: &str) -> Option<i64>
+/// The value of an `int` without blanks round it; `None` if the text is none.
+pub(crate) fn parse_int(text: &str) -> Option<i64>
     ensures { result ≡ signed text.now }
 {
     text.parse::<i64>().ok()
@@ -65,11 +68,12 @@ pub(crate) fn int_of(text: &str) -> Option<i64>
 pub fn read_bool(text: &str) -> Option<bool>
     ensures { result ≡ truth (trim text.now) }
 {
-    bool_of(trim(text))
+    parse_bool(trim(text))
 }
 
+/// The value of a `bool` without blanks round it; `None` if the text is none.
 #[tactic(auto, unfolding(crate::specs::Words::truth))]
-pub(crate) fn bool_of(text: &str) -> Option<bool>
+pub(crate) fn parse_bool(text: &str) -> Option<bool>
     ensures { result ≡ truth text.now }
 {
     match text {

@@ -6,8 +6,8 @@ ghost use Rattle.cudf_value.specs.Promises.Types.{type_view};
 ghost use Rattle.cudf_value.specs.Types.{is_of_type};
 
 use crate::formula::is_formula_text;
-use crate::number::{bool_of, int_of, is_pkgname, nat_of, posint_of};
-use crate::vpkg::{veqpkg_of, vpkg_of};
+use crate::number::{is_pkgname, parse_bool, parse_int, parse_nat, parse_posint};
+use crate::vpkg::{parse_veqpkg, parse_vpkg};
 use crate::vpkglist::{is_veqpkglist_text, is_vpkglist_text};
 use cudf_text::{is_ident, trim};
 use std::alloc::{AllocError, Global};
@@ -83,16 +83,16 @@ pub fn is_of_type(kind: &ValueType<'_>, text: &str) -> bool
     ensures { result ≡ is_of_type (type_view kind.now) text.now }
 {
     match kind {
-        ValueType::Positive => posint_of(text).is_some(),
-        ValueType::Natural => nat_of(text).is_some(),
-        ValueType::Signed => int_of(text).is_some(),
-        ValueType::Truth => bool_of(text).is_some(),
+        ValueType::Positive => parse_posint(text).is_some(),
+        ValueType::Natural => parse_nat(text).is_some(),
+        ValueType::Signed => parse_int(text).is_some(),
+        ValueType::Truth => parse_bool(text).is_some(),
         ValueType::Words => true,
         ValueType::Name => is_pkgname(text),
         ValueType::Ident => is_ident(text),
         ValueType::Choice(idents) => is_one_of(idents, text),
-        ValueType::Versioned => vpkg_of(text).is_some(),
-        ValueType::Exact => veqpkg_of(text).is_some(),
+        ValueType::Versioned => parse_vpkg(text).is_some(),
+        ValueType::Exact => parse_veqpkg(text).is_some(),
         ValueType::Formula => is_formula_text(text),
         ValueType::List => is_vpkglist_text(text),
         ValueType::ExactList => is_veqpkglist_text(text),

@@ -9,7 +9,7 @@ ghost use Rattle.cudf_value.specs.Printing.{vpkg_text, atom_text, clause_text};
 
 use crate::atom::Atom;
 use crate::formula::Clause;
-use crate::number::posint_of;
+use crate::number::parse_posint;
 use cudf_text::scan::{Class, first_byte, split_run, trim_start};
 use cudf_text::trim;
 use itoa::Buffer;
@@ -31,7 +31,7 @@ pub struct Vpkg<'t> {
 pub fn read_vpkg(text: &str) -> Option<Vpkg<'_>>
     ensures { option_map vpkg_view result ≡ vpkg (trim text.now) }
 {
-    vpkg_of(trim(text))
+    parse_vpkg(trim(text))
 }
 
 /// Reads a `veqpkg` (CUDF 2.0, the type library), with blanks or none round it: a `vpkg` without an operator or with `=`.
@@ -40,25 +40,26 @@ pub fn read_vpkg(text: &str) -> Option<Vpkg<'_>>
 pub fn read_veqpkg(text: &str) -> Option<Vpkg<'_>>
     ensures { option_map vpkg_view result ≡ veqpkg (trim text.now) }
 {
-    veqpkg_of(trim(text))
+    parse_veqpkg(trim(text))
 }
 
+/// The value of a `vpkg` without blanks round it; `None` if the text is none.
 #[tactic(auto, unfolding(crate::specs::Vpkgs::vpkg))]
-pub(crate) fn vpkg_of(text: &str) -> Option<Vpkg<'_>>
+pub(crate) fn parse_vpkg(text: &str) -> Option<Vpkg<'_>>
     ensures { option_map vpkg_view result ≡ vpkg text.now }
 {
     let (name, rest) = split_run(text, Class::Name);
     if name.is_empty() {
         None
     } else {
-        vpkg_before(name, rest)
+        complete_vpkg(name, rest)
     }
 }
 
 /// A vpkg at the front, with blanks or none round it, and what follows them: a name with its
 /// bound, or alone where no bound comes after it. `None` is answered where no name is there.
 #[inline(always)]
-pub(crate) fn vpkg_at(text: &str) -> Option<(Vpkg<'_>, &str)>
+pub(crate) fn split_vpkg(text: &str) -> Option<(Vpkg<'_>, &str)>
     ensures begins { IfSome result (λ at. BeginsWith (vpkg_view at.0) text.now at.1.now) }
     ensures shorter { IfSome result (λ at. length at.1.now ≤ length text.now) }
 {
@@ -71,7 +72,7 @@ pub(crate) fn vpkg_at(text: &str) -> Option<(Vpkg<'_>, &str)>
         return Some((Vpkg { name, bound: None }, rest));
     }
     let rest = trim_start(rest);
-    match bound_at(rest) {
+    match split_bound(rest) {
         Some((relop, number, more)) => {
             let bound = Some((relop, number));
             Some((Vpkg { name, bound }, more))
@@ -82,19 +83,19 @@ pub(crate) fn vpkg_at(text: &str) -> Option<(Vpkg<'_>, &str)>
 
 /// The operator and the number at the front, and what follows them and blanks.
 #[inline(always)]
-fn bound_at(text: &str) -> Option<(Relop, u64, &str)>
+fn split_bound(text: &str) -> Option<(Relop, u64, &str)>
     ensures begins { IfSome result (λ at. BoundBegins at.0 at.1 text.now at.2.now) }
     ensures shorter { IfSome result (λ at. length at.2.now ≤ length text.now) }
 {
     let (symbol, rest) = split_run(text, Class::Operator);
     let relop = Relop::of_symbol(symbol)?;
     let (digits, rest) = split_run(trim_start(rest), Class::Name);
-    let number = posint_of(digits)?;
+    let number = parse_posint(digits)?;
     Some((relop, number, trim_start(rest)))
 }
 
 /// The vpkg of a name, with `rest` directly after it.
-fn vpkg_before<'t>(name: &'t str, rest: &str) -> Option<Vpkg<'t>>
+fn complete_vpkg<'t>(name: &'t str, rest: &str) -> Option<Vpkg<'t>>
     ensures { option_map vpkg_view result ≡ vpkg_after name.now rest.now }
 {
     if rest.is_empty() {
@@ -102,18 +103,19 @@ fn vpkg_before<'t>(name: &'t str, rest: &str) -> Option<Vpkg<'t>>
     }
     let (symbol, rest) = split_run(trim_start(rest), Class::Operator);
     let relop = Relop::of_symbol(symbol)?;
-    let number = posint_of(trim_start(rest))?;
+    let number = parse_posint(trim_start(rest))?;
     Some(Vpkg {
         name,
         bound: Some((relop, number)),
     })
 }
 
+/// The value of a `veqpkg` without blanks round it; `None` if the text is none.
 #[tactic(auto, unfolding(crate::specs::Vpkgs::veqpkg))]
-pub(crate) fn veqpkg_of(text: &str) -> Option<Vpkg<'_>>
+pub(crate) fn parse_veqpkg(text: &str) -> Option<Vpkg<'_>>
     ensures { option_map vpkg_view result ≡ veqpkg text.now }
 {
-    let vpkg = vpkg_of(text)?;
+    let vpkg = parse_vpkg(text)?;
     if is_exact(vpkg.bound) {
         Some(vpkg)
     } else {
@@ -121,7 +123,7 @@ pub(crate) fn veqpkg_of(text: &str) -> Option<Vpkg<'_>>
     }
 }
 
-/// Whether the bound admits all numbers, or one.
+/// Whether there is no bound, or one with `=`.
 pub(crate) fn is_exact(bound: Option<(Relop, u64)>) -> bool
     ensures { result ≡ is_exact bound }
 {

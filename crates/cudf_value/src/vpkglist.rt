@@ -12,7 +12,7 @@ ghost use Rattle.cudf_value.specs.Promises.Types.{type_view};
 
 pub(crate) mod reading;
 
-use crate::atom::atom_of;
+use crate::atom::read_atom;
 use crate::entry::first_entry;
 use crate::value_type::ValueType;
 use crate::vpkg::{Vpkg, read_veqpkg, read_vpkg};
@@ -145,15 +145,15 @@ fn are_entries(text: &str, exact: bool) -> bool
 /// `None` is answered of other types, and where each entry is one. The empty text has one entry, an empty one, so 1 is
 /// answered of it though it is a value of each of these types: ask this of a text that isn't of the type. Takes no
 /// memory.
-pub fn misfit(kind: &ValueType<'_>, text: &str) -> Option<u64>
+pub fn first_invalid_entry(kind: &ValueType<'_>, text: &str) -> Option<u64>
     ensures { result ≡ misfit (type_word (type_view kind.now)) (trim text.now) }
 {
-    let index = misfit_index(kind, trim(text))?;
+    let index = first_invalid_index(kind, trim(text))?;
     Some(index as u64 + 1)
 }
 
-/// The same, counted from 0.
-fn misfit_index(kind: &ValueType<'_>, text: &str) -> Option<usize>
+/// The index, from 0, of the first entry that isn't of the type; `None` where all are. The text has no blanks round it.
+fn first_invalid_index(kind: &ValueType<'_>, text: &str) -> Option<usize>
     ensures value { option_map (λ n. n + 1) result ≡ misfit (type_word (type_view kind.now)) text.now }
     ensures inside { IfSome result (λ n. n ≤ length text.now) }
 {
@@ -177,5 +177,5 @@ fn is_entry(kind: &ValueType<'_>, entry: &str) -> bool
 fn is_clause(text: &str) -> bool
     ensures { result ≡ is_some (clause text.now) }
 {
-    text.split('|').all(|atom| atom_of(atom).is_some())
+    text.split('|').all(|atom| read_atom(atom).is_some())
 }

@@ -7,7 +7,7 @@ use Rattle.cudf_check.specs.Naming.{Names, PlainOrigin, PlainOrigins}
 use Rattle.cudf_check.specs.Styles.{Style}
 use Rattle.cudf_device.specs.Device.{SourceState}
 use Rattle.cudf_device.specs.Readers.{names_in}
-use Rattle.cudf_check.specs.declared.naming.Given.{Given}
+use Rattle.cudf_check.specs.declared.naming.NamedInput.{NamedInput}
 use Rattle.cudf_check.specs.declared.naming.Origin.{Origin}
 use Rattle.cudf_check.specs.declared.naming.Origins.{Origins}
 use Rattle.cudf_check.specs.declared.report.Document.{Document}
@@ -20,14 +20,14 @@ abbrev pub origins_view : Origins → PlainOrigins
 origins_view o = record { problem = option_map origin_view o.problem; solution = option_map origin_view o.solution }
 
 -- the names of the inputs of a job
-abbrev pub other_names : Option Given → List (Option (List ℕ))
+abbrev pub other_names : Option NamedInput → List (Option (List ℕ))
 other_names None = []
 other_names (Some given) = option_map (λ n. n.now) given.name ∷ []
 
-abbrev pub given_names : Given → Option Given → Names
+abbrev pub given_names : NamedInput → Option NamedInput → Names
 given_names first second = record { first = option_map (λ n. n.now) first.name; others = other_names second }
 
-abbrev pub names_given : {S : Type 0} → (S → SourceState) → Given → List S → Names
+abbrev pub names_given : {S : Type 0} → (S → SourceState) → NamedInput → List S → Names
 names_given state first others = record { first = option_map (λ n. n.now) first.name; others = names_in state others }
 
 -- ---- styles

@@ -7,7 +7,7 @@ ghost use Rattle.cudf_check.specs.Styles.{plainly};
 use crate::lines::dimacs::print_dimacs;
 use crate::lines::judged::print_aim_lines;
 use crate::lines::reasons::print_step_fault;
-use cudf_better::encoded;
+use cudf_better::encode_better;
 use cudf_device::{Outcome, Paper, Sink};
 use cudf_document::Problem;
 use cudf_lrat::{Answer, Cnf, check};
@@ -24,7 +24,7 @@ pub(crate) fn print_better<W: Sink>(
 ) -> Result<Outcome, AllocError>
     ensures { Prints W.state paper.old paper.new (cnf_better aims.now problem.now counts.now) result }
 {
-    match encoded(alloc, problem, counts, aims) {
+    match encode_better(alloc, problem, counts, aims) {
         Ok(Some(cnf)) => {
             print_dimacs(paper, problem.packages(), &cnf);
             Ok(Outcome::Yes)
@@ -35,7 +35,7 @@ pub(crate) fn print_better<W: Sink>(
 }
 
 /// Checks a proof that no solution compares better, and prints what comes of it.
-pub(crate) fn print_best<W: Sink>(
+pub(crate) fn refute_better<W: Sink>(
     paper: &mut Paper<'_, W>,
     alloc: Global,
     problem: &Problem<'_>,
@@ -45,15 +45,16 @@ pub(crate) fn print_best<W: Sink>(
 ) -> Result<Outcome, AllocError>
     ensures { Prints W.state paper.old paper.new (refute_better plainly aims.now proof.now problem.now counts.now) result }
 {
-    match encoded(alloc, problem, counts, aims) {
-        Ok(Some(cnf)) => print_checked(paper, alloc, &cnf, counts, aims, proof),
+    match encode_better(alloc, problem, counts, aims) {
+        Ok(Some(cnf)) => check_better_proof(paper, alloc, &cnf, counts, aims, proof),
         Ok(None) => Ok(Outcome::TooLarge),
         Err(error) => Err(error),
     }
 }
 
-/// The same, where this is the CNF.
-fn print_checked<W: Sink>(
+/// Checks a proof against this CNF, and prints its first error, or the counts of the aims and that no better solution
+/// exists.
+fn check_better_proof<W: Sink>(
     paper: &mut Paper<'_, W>,
     alloc: Global,
     cnf: &Cnf,

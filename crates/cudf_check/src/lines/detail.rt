@@ -113,7 +113,7 @@ fn is_postmark(name: &str) -> bool
 }
 
 /// Prints, after the name of a postmark, that a stanza may begin with it.
-fn print_unparted<W: Sink>(paper: &mut Paper<'_, W>, name: &str)
+fn print_missing_blank<W: Sink>(paper: &mut Paper<'_, W>, name: &str)
     ensures { Says W.state paper.old paper.new (unparted_added name.now) }
 {
     if is_postmark(name) {
@@ -127,7 +127,7 @@ fn print_name_on<W: Sink>(paper: &mut Paper<'_, W>, name: &str, line: u64)
 {
     paper.text(name);
     print_numbered(paper, " stands on line ", line);
-    print_unparted(paper, name);
+    print_missing_blank(paper, name);
 }
 
 /// Prints that nothing declares a name.
@@ -135,7 +135,7 @@ fn print_undeclared<W: Sink>(paper: &mut Paper<'_, W>, name: &str)
     ensures { Says W.state paper.old paper.new (detail_text None (undeclared name.now)) }
 {
     print_texts(paper, "nothing declares ", name);
-    print_unparted(paper, name);
+    print_missing_blank(paper, name);
 }
 
 /// Prints of which name a property has no meaning, or before which one a blank line is missing.

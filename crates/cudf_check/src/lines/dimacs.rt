@@ -5,7 +5,7 @@ ghost use Rattle.cudf_problem.specs.Promises.Views.{package_view};
 ghost use Rattle.cudf_check.specs.Report.{clause_line, cnf_answer, dimacs, header_line, literal_text, package_comment};
 ghost use Rattle.cudf_device.specs.Promises.PaperInside.{Prints, Says};
 
-use cudf_cnf::encoded;
+use cudf_cnf::encode_rules;
 use cudf_device::{Outcome, Paper, Sink};
 use cudf_document::{Package, Problem};
 use cudf_lrat::{Cnf, Literal};
@@ -97,7 +97,7 @@ pub(crate) fn print_cnf<W: Sink>(
 ) -> Result<Outcome, AllocError>
     ensures { Prints W.state paper.old paper.new (cnf_answer problem.now) result }
 {
-    match encoded(alloc, problem) {
+    match encode_rules(alloc, problem) {
         Ok(Some(clauses)) => {
             print_dimacs(paper, problem.packages(), clauses.cnf());
             Ok(Outcome::Yes)

@@ -11,7 +11,7 @@ use crate::lines::instance::package_at;
 use crate::lines::naming::{StanzaLines, print_listed};
 use cudf_device::{Paper, Sink};
 use cudf_document::Package;
-use cudf_referee::{Aspect, Explainer, Instance, Remedies, What};
+use cudf_referee::{Aspect, Explainer, Instance, Remedies, Requirement};
 
 /// Prints where a package is.
 fn print_stanza<W: Sink>(paper: &mut Paper<'_, W>, package: &Package<'_>)
@@ -47,19 +47,19 @@ fn print_was_installed<W: Sink>(paper: &mut Paper<'_, W>, package: &Package<'_>)
     paper.text(" was installed");
 }
 
-/// Whether the instance is of depends, install or upgrade, and lacks a package that satisfies its conjunct or entry.
+/// Whether the instance is of depends, install or upgrade, and lacks a package that satisfies its clause or entry.
 fn lacks_package(instance: &Instance<'_>) -> bool
     ensures { result ≡ lacks_package (instance_view instance.now).what (instance_view instance.now).key.aspect }
 {
     match instance.what {
-        What::Needs(_) | What::Install(_) => true,
-        What::Upgrade(_) => matches!(instance.key.aspect(), Some(Aspect::Unsatisfied)),
+        Requirement::Needs(_) | Requirement::Install(_) => true,
+        Requirement::Upgrade(_) => matches!(instance.key.aspect(), Some(Aspect::Unsatisfied)),
         _ => false,
     }
 }
 
 /// Prints the package of the problem that would help, where the instance lacks one, and where the solution has it.
-pub(crate) fn print_help<W: Sink>(
+pub(crate) fn print_remedy<W: Sink>(
     paper: &mut Paper<'_, W>,
     remedies: &Remedies<'_, '_>,
     listed: StanzaLines<'_>,
@@ -69,7 +69,7 @@ pub(crate) fn print_help<W: Sink>(
 {
     if lacks_package(instance) {
         let packages = remedies.packages();
-        let before = remedies.was_installed(instance);
+        let before = remedies.installed_remedy(instance);
         let named = package_at(packages, before);
         match named {
             Some(package) => {
@@ -77,7 +77,7 @@ pub(crate) fn print_help<W: Sink>(
                 print_listed(paper, listed, before);
             }
             None => {
-                let does = remedies.would_do(instance);
+                let does = remedies.first_remedy(instance);
                 let helper = package_at(packages, does);
                 print_would_do(paper, helper);
                 print_listed(paper, listed, does);
@@ -86,7 +86,7 @@ pub(crate) fn print_help<W: Sink>(
     }
 }
 
-/// The same, where there is no solution.
+/// Prints the package of the problem that would help, where the instance lacks one, and no line of a solution.
 pub(crate) fn print_help_alone<W: Sink>(
     paper: &mut Paper<'_, W>,
     remedies: &Remedies<'_, '_>,
@@ -98,7 +98,7 @@ pub(crate) fn print_help_alone<W: Sink>(
         origin: None,
         lines: &[],
     };
-    print_help(paper, remedies, listed, instance);
+    print_remedy(paper, remedies, listed, instance);
 }
 
 /// Prints the first package of a name, or that there is none.
@@ -186,17 +186,17 @@ fn print_status<W: Sink>(
     ensures { let i = instance_view instance.now in Says W.state paper.old paper.new (status_added explainer.now i.what i.key.aspect i.subject) }
 {
     match instance.what {
-        What::Upgrade(vpkg) => {
+        Requirement::Upgrade(vpkg) => {
             print_numbers(paper, explainer, vpkg.name, instance.key.aspect());
         }
-        What::Unknown => print_unknown(paper, explainer, instance.subject),
-        What::Needs(_)
-        | What::ConflictsWith(_)
-        | What::KeepVersion
-        | What::KeepPackage
-        | What::KeepFeature(_)
-        | What::Install(_)
-        | What::Remove(_) => {}
+        Requirement::Unknown => print_unknown(paper, explainer, instance.subject),
+        Requirement::Needs(_)
+        | Requirement::ConflictsWith(_)
+        | Requirement::KeepVersion
+        | Requirement::KeepPackage
+        | Requirement::KeepFeature(_)
+        | Requirement::Install(_)
+        | Requirement::Remove(_) => {}
     }
 }
 
@@ -256,7 +256,7 @@ pub(crate) fn print_explained<W: Sink>(
 )
     ensures { Says W.state paper.old paper.new (explained (listed_by (option_map origin_view listed.entry.origin) listed.entry.lines.now) explainer.now (instance_view instance.now) met) }
 {
-    print_help(paper, explainer.remedies(), listed, instance);
+    print_remedy(paper, explainer.remedies(), listed, instance);
     print_status(paper, explainer, instance);
     print_met(paper, explainer, met);
 }

@@ -12,11 +12,11 @@ ghost use Rattle.cudf_check.specs.JobStyles.{named_style};
 ghost use Rattle.cudf_check.specs.Working.Named.{origin_view};
 ghost use Rattle.cudf_device.specs.Promises.PaperInside.{Says};
 
-use crate::lines::naming::{print_before, print_numbered};
+use crate::lines::naming::{print_file_prefix, print_numbered};
 use crate::naming::Origin;
 use cudf_device::{Paper, Sink};
 use cudf_document::Package;
-use cudf_referee::{Aspect, Instance, Key, Part, What};
+use cudf_referee::{Aspect, Instance, Key, Part, Requirement};
 use cudf_value::{Atom, Clause, Vpkg};
 
 /// Prints a vpkg, with its bound, if it has one.
@@ -117,31 +117,31 @@ fn print_met<W: Sink>(
 /// Prints what is wrong, with the package that meets the entry.
 fn print_what<W: Sink>(
     paper: &mut Paper<'_, W>,
-    what: &What<'_>,
+    what: &Requirement<'_>,
     aspect: Option<Aspect>,
     met: Option<&Package<'_>>,
 )
     ensures { Says W.state paper.old paper.new (what_text (what_view what.now) aspect (option_map (λ p. package_view p.now) met.entry)) }
 {
     match what {
-        What::Needs(clause) => {
+        Requirement::Needs(clause) => {
             paper.text("needs ");
             print_clause(paper, *clause);
         }
-        What::ConflictsWith(vpkg) => print_met(paper, "conflicts with ", vpkg, met),
-        What::KeepVersion => paper.text("keep version"),
-        What::KeepPackage => paper.text("keep package"),
-        What::KeepFeature(vpkg) => {
+        Requirement::ConflictsWith(vpkg) => print_met(paper, "conflicts with ", vpkg, met),
+        Requirement::KeepVersion => paper.text("keep version"),
+        Requirement::KeepPackage => paper.text("keep package"),
+        Requirement::KeepFeature(vpkg) => {
             paper.text("keep feature ");
             print_vpkg(paper, vpkg);
         }
-        What::Install(vpkg) => {
+        Requirement::Install(vpkg) => {
             paper.text("needs ");
             print_vpkg(paper, vpkg);
         }
-        What::Remove(vpkg) => print_met(paper, "must remove ", vpkg, met),
-        What::Upgrade(vpkg) => print_upgrade(paper, vpkg, aspect),
-        What::Unknown => paper.text("not in the universe"),
+        Requirement::Remove(vpkg) => print_met(paper, "must remove ", vpkg, met),
+        Requirement::Upgrade(vpkg) => print_upgrade(paper, vpkg, aspect),
+        Requirement::Unknown => paper.text("not in the universe"),
     }
 }
 
@@ -203,7 +203,7 @@ pub(crate) fn print_instance<W: Sink>(
 )
     ensures { Says W.state paper.old paper.new (met_text (named_style (option_map origin_view origin.entry)) (instance_view instance.now) (option_map (λ p. package_view p.now) met.entry)) }
 {
-    print_before(paper, origin, instance.line);
+    print_file_prefix(paper, origin, instance.line);
     print_key(paper, instance.key);
     print_subject(paper, instance.subject);
     print_numbered(paper, origin, instance.line);

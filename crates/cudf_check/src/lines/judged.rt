@@ -16,7 +16,7 @@ ghost use Rattle.cudf_check.specs.Working.Named.{instance_style, origins_view};
 ghost use Rattle.cudf_check.specs.Working.Pages.{Ascends};
 
 use crate::lines::scribe::{Scribe, print_page};
-use crate::readings::lines_in;
+use crate::readings::parse_stanza_lines;
 use crate::report::{Inputs, explains};
 use cudf_device::{Outcome, Paper, Sink};
 use cudf_document::{Problem, Solution};
@@ -87,7 +87,7 @@ fn print_judged<W: Sink>(
 }
 
 /// Judges what a solution proposes, and prints the report: what is found for the job, and the verdict.
-pub(crate) fn print_solution<W: Sink>(
+pub(crate) fn judge_solution<W: Sink>(
     paper: &mut Paper<'_, W>,
     alloc: Global,
     job: &Job,
@@ -103,7 +103,7 @@ pub(crate) fn print_solution<W: Sink>(
 {
     ascending();
     let referee = Referee::new(alloc, problem, solution)?;
-    print_by(paper, alloc, job, inputs, problem, &referee)
+    report_with_referee(paper, alloc, job, inputs, problem, &referee)
 }
 
 /// Whether lines are explained. Where the status is a solution, there is none.
@@ -113,8 +113,8 @@ fn is_explained(job: &Job, is_solution: bool) -> bool
     explains(job) && !is_solution
 }
 
-/// The same, by the referee.
-fn print_by<W: Sink>(
+/// Prints the report of the status that this referee judged: what is found for the job, and the verdict.
+fn report_with_referee<W: Sink>(
     paper: &mut Paper<'_, W>,
     alloc: Global,
     job: &Job,
@@ -129,7 +129,7 @@ fn print_by<W: Sink>(
         Prints W.state paper.old paper.new (judged_report (found_text job.now style) referee.entry.now) result }
 {
     let explain = is_explained(job, referee.is_solution());
-    let lines = lines_in(alloc, explain, inputs.solution, problem)?;
+    let lines = parse_stanza_lines(alloc, explain, inputs.solution, problem)?;
     let scribe = Scribe::new(alloc, referee, explain, inputs.origins, &lines)?;
     Ok(print_judged(paper, &scribe, job))
 }

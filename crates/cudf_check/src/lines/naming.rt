@@ -20,7 +20,11 @@ use cudf_document::Detail;
 use cudf_text::Fault;
 
 /// Prints the file and the number of a line, where the file is named, before all else.
-pub(crate) fn print_before<W: Sink>(paper: &mut Paper<'_, W>, origin: Option<Origin<'_>>, line: u64)
+pub(crate) fn print_file_prefix<W: Sink>(
+    paper: &mut Paper<'_, W>,
+    origin: Option<Origin<'_>>,
+    line: u64,
+)
     ensures { Says W.state paper.old paper.new (named_before (option_map origin_view origin.entry) line) }
 {
     if let Some(named) = origin {
@@ -71,7 +75,7 @@ pub(crate) fn print_faulty<W: Sink>(
     ensures { Says W.state paper.old paper.new
         (faulty (detailed_style (option_map origin_view document.entry.origin) (option_map detail_view detail.entry)) of_problem document.entry.whose.now fault).text }
 {
-    print_before(paper, document.origin, fault.line);
+    print_file_prefix(paper, document.origin, fault.line);
     paper.text(document.whose);
     print_fault(paper, document.origin, fault, detail);
     paper.text("\n");

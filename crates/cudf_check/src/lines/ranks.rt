@@ -10,7 +10,7 @@ ghost use Rattle.cudf_check.specs.Report.{faulty};
 ghost use Rattle.cudf_check.specs.Styles.{of_solution};
 ghost use Rattle.cudf_check.specs.Working.Named.{entrants_style};
 
-use crate::lines::naming::{print_before, print_fault, print_shown};
+use crate::lines::naming::{print_fault, print_file_prefix, print_shown};
 use crate::naming::{name_at, own_file};
 use cudf_device::{Paper, Sink, Source};
 use cudf_job::{Entrant, Judgement};
@@ -124,7 +124,7 @@ pub(crate) fn print_faulty_solution<W: Sink>(
         Says W.state paper.old paper.new (faulty (named_style (own_file plain)) of_solution (entrant_word plain place) fault).text }
 {
     let origin = own_file(name);
-    print_before(paper, origin, fault.line);
+    print_file_prefix(paper, origin, fault.line);
     print_whose(paper, name, place);
     print_fault(paper, origin, fault, None);
     paper.text("\n");

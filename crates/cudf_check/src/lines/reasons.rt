@@ -22,12 +22,12 @@ use crate::lines::detail::{format_text, print_line_text};
 use crate::lines::explanation::print_help_alone;
 use crate::lines::instance::{package_at, print_instance, print_meeting};
 use cudf_cnf::laws::ordered;
-use cudf_cnf::{KeyedClauses, encoded};
+use cudf_cnf::{KeyedClauses, encode_rules};
 use cudf_device::{Outcome, Paper, Sink};
 use cudf_document::{Format, Package, Problem, format_of};
 use cudf_lrat::laws::refuted;
 use cudf_lrat::{Answer, Cnf, ProofDetail, ProofFault, check, fault_detail};
-use cudf_reasons::{NeededClause, Reasons, reasons};
+use cudf_reasons::{NeededClause, Reasons, order_reasons};
 use cudf_referee::{Instance, InstanceFinder, Key, Remedies};
 use std::alloc::{AllocError, Global};
 use std::marker::Model;
@@ -196,7 +196,7 @@ fn reasons_of(alloc: Global, clauses: &KeyedClauses, numbers: &[u32]) -> Result<
     ensures { IfOk result (λ reasons. reasons ≡ map told_as (reasons_of (needed clauses.now.clauses numbers.now))) }
 {
     let needed = needed_of(alloc, clauses, numbers)?;
-    reasons(alloc, &needed)
+    order_reasons(alloc, &needed)
 }
 
 /// Prints the instances whose clauses have these numbers, of which no status keeps all.
@@ -233,7 +233,7 @@ fn print_reasons<W: Sink>(
 }
 
 /// Checks a proof that a problem has no solution, and prints what comes of it.
-pub(crate) fn print_proof<W: Sink>(
+pub(crate) fn report_refutation<W: Sink>(
     paper: &mut Paper<'_, W>,
     alloc: Global,
     problem: &Problem<'_>,
@@ -242,15 +242,16 @@ pub(crate) fn print_proof<W: Sink>(
 ) -> Result<Outcome, AllocError>
     ensures { Prints W.state paper.old paper.new (refute_answer (proof_style explain proof.now) proof.now problem.now) result }
 {
-    match encoded(alloc, problem) {
-        Ok(Some(clauses)) => print_checked(paper, alloc, problem, &clauses, proof, explain),
+    match encode_rules(alloc, problem) {
+        Ok(Some(clauses)) => check_refutation(paper, alloc, problem, &clauses, proof, explain),
         Ok(None) => Ok(Outcome::TooLarge),
         Err(error) => Err(error),
     }
 }
 
-/// The same, where these are the clauses of the problem's CNF.
-fn print_checked<W: Sink>(
+/// Checks a proof against these clauses, those of the problem's CNF, and prints its first error, or the instances of its
+/// core.
+fn check_refutation<W: Sink>(
     paper: &mut Paper<'_, W>,
     alloc: Global,
     problem: &Problem<'_>,
@@ -266,7 +267,7 @@ fn print_checked<W: Sink>(
     let cnf = clauses.cnf();
     match check(alloc, cnf, proof) {
         Ok(Answer::Faulty { line, kind }) => {
-            let said = said_of(alloc, cnf, proof, line, kind, explain)?;
+            let said = proof_note(alloc, cnf, proof, line, kind, explain)?;
             print_step_fault(paper, line, kind, said);
             Ok(Outcome::No)
         }
@@ -287,7 +288,7 @@ pub(crate) enum ProofNote<'p> {
 
 /// What is said beside the fault of this kind on a line of a proof, where lines are explained.
 #[tactic(auto, unfolding(crate::specs::ProofDetails::proof_explained))]
-pub(crate) fn said_of<'p>(
+pub(crate) fn proof_note<'p>(
     alloc: Global,
     cnf: &Cnf,
     proof: &'p [u8],
@@ -310,7 +311,7 @@ pub(crate) fn said_of<'p>(
 }
 
 /// Prints how many clauses a CNF has.
-fn print_clauses<W: Sink>(paper: &mut Paper<'_, W>, clauses: u32)
+fn print_clause_count<W: Sink>(paper: &mut Paper<'_, W>, clauses: u32)
     ensures { Says W.state paper.old paper.new (codes "the CNF has " ++ decimal clauses ++ codes " clauses") }
 {
     paper.text("the CNF has ");
@@ -326,7 +327,7 @@ fn print_detail<W: Sink>(paper: &mut Paper<'_, W>, detail: ProofDetail<'_>)
         ProofDetail::Binary => paper.text("it is a binary proof"),
         ProofDetail::NoHints => paper.text("a step has a number and hints"),
         ProofDetail::LineText { text } => print_line_text(paper, text),
-        ProofDetail::ClauseCount { clauses } => print_clauses(paper, clauses),
+        ProofDetail::ClauseCount { clauses } => print_clause_count(paper, clauses),
     }
 }
 

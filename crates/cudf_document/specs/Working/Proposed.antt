@@ -9,7 +9,7 @@ use Rattle.cudf_document.specs.SolutionFaults.{solution_stanza_faults, solution_
 use Rattle.cudf_problem.specs.Statuses.{PlainUnknown}
 use Rattle.cudf_problem.specs.Promises.Statuses.{installed_stanzas}
 use Rattle.cudf_problem.specs.Promises.Views.{unknown_view}
-use Rattle.cudf_document.specs.Working.Extras.{AreExtras, names_with}
+use Rattle.cudf_document.specs.Working.DeclaredNames.{AreExtras, names_with}
 use Rattle.cudf_document.specs.Working.Pairs.{ArePairs}
 
 -- the first fault of these stanzas, where the problem declares these names, the names that are declared, the stanzas' pairs,

@@ -56,7 +56,7 @@ fn invalid_byte<'t>(bytes: &[u8]) -> Option<Detail<'t>>
 }
 
 /// What is reported of bytes that are no text: their format, or else the first byte that isn't UTF-8.
-pub(crate) fn invalid<'t>(bytes: &[u8]) -> Option<Detail<'t>>
+pub(crate) fn invalid_bytes_detail<'t>(bytes: &[u8]) -> Option<Detail<'t>>
     ensures { ¬ (IsUtf8 bytes.now) → option_map detail_view result ≡ Some (invalid_detail bytes.now) }
 {
     match format_of(bytes) {
@@ -82,7 +82,7 @@ fn line_at(text: &str, number: u64) -> Option<&str>
 }
 
 /// What is reported of the line of this number where it begins with a byte order mark: the mark, on line 1.
-fn marked<'t>(number: u64) -> Option<Detail<'t>>
+fn byte_order_mark_detail<'t>(number: u64) -> Option<Detail<'t>>
     ensures { option_map detail_view result ≡ marked_detail number }
 {
     if number == 1 {
@@ -93,7 +93,7 @@ fn marked<'t>(number: u64) -> Option<Detail<'t>>
 }
 
 /// What is reported of another line: its text, unless that is empty.
-fn shown(text: &str) -> Option<Detail<'_>>
+fn line_text_detail(text: &str) -> Option<Detail<'_>>
     ensures { option_map detail_view result ≡ shown_detail text.now }
 {
     if text.is_empty() {
@@ -108,14 +108,14 @@ fn line_detail(number: u64, line: &str) -> Option<Detail<'_>>
     ensures { option_map detail_view result ≡ line_detail number line.now }
 {
     if line.as_bytes().starts_with(b"\xEF\xBB\xBF") {
-        marked(number)
+        byte_order_mark_detail(number)
     } else {
-        shown(trim(line))
+        line_text_detail(trim(line))
     }
 }
 
 /// What is reported of the line of this number of a text, which can't be read.
-pub(crate) fn unread(text: &str, number: u64) -> Option<Detail<'_>>
+pub(crate) fn invalid_line_detail(text: &str, number: u64) -> Option<Detail<'_>>
     ensures { option_map detail_view result ≡ unread_detail text.now number }
 {
     match line_at(text, number) {
@@ -204,7 +204,7 @@ fn find_package<'t>(
                 if line <= last {
                     return Ok(None);
                 }
-                if let Some(package) = package_if(&stanza, name, version) {
+                if let Some(package) = matching_package_detail(&stanza, name, version) {
                     return Ok(Some(package));
                 }
             }
@@ -214,7 +214,11 @@ fn find_package<'t>(
 }
 
 /// The stanza, if it is a package of this name and version.
-fn package_if<'t>(stanza: &StanzaRef<'t>, name: &str, version: u64) -> Option<Detail<'t>>
+fn matching_package_detail<'t>(
+    stanza: &StanzaRef<'t>,
+    name: &str,
+    version: u64,
+) -> Option<Detail<'t>>
     ensures { option_map detail_view result
         ≡ (if is_known ((name.now, version) ∷ []) (id_of (stanza_view stanza.now)) then Some (package_on name.now version (stanza_view stanza.now).line) else None) }
 {

@@ -19,11 +19,11 @@ use crate::details::{Detail, property_on};
 use crate::names::{SeenNames, postmark_of};
 use cudf_problem::{Mode, Postmark};
 use cudf_text::{PropertyRef, StanzaRef, trim};
-use cudf_value::{ValueType, declaration_pieces, misfit, read_declaration};
+use cudf_value::{ValueType, declaration_pieces, first_invalid_entry, read_declaration};
 use std::alloc::{AllocError, Global};
 
 /// The name and the type of the property on a line, where its name is known in the stanza.
-pub(crate) fn mistyped<'t>(
+pub(crate) fn type_error_detail<'t>(
     alloc: Global,
     declarations: &Declarations<'t>,
     stanza: &StanzaRef<'t>,
@@ -33,13 +33,13 @@ pub(crate) fn mistyped<'t>(
         ≡ option_and_then (mistyped_after declarations.now (stanza_view stanza.now)) (property_at line (stanza_view stanza.now)) }
 {
     match property_on(stanza, line) {
-        Some(property) => typed(alloc, declarations, postmark_of(stanza), property),
+        Some(property) => property_type_error(alloc, declarations, postmark_of(stanza), property),
         None => None,
     }
 }
 
 /// The name and the type of a property, where its name is known in a stanza with this postmark.
-fn typed<'t>(
+fn property_type_error<'t>(
     alloc: Global,
     declarations: &Declarations<'t>,
     mark: Option<Postmark>,
@@ -49,14 +49,14 @@ fn typed<'t>(
         ≡ option_map (mistyped_as property.now.name.now property.now.value.now) (look_up property.now.name.now (words declarations.now mark)) }
 {
     match mark {
-        Some(Postmark::Package) => in_package(alloc, declarations, property),
-        Some(Postmark::Request) => in_request(property),
+        Some(Postmark::Package) => package_type_error(alloc, declarations, property),
+        Some(Postmark::Request) => request_type_error(property),
         Some(Postmark::Preamble) | None => None,
     }
 }
 
-/// The same in a package.
-fn in_package<'t>(
+/// The detail of E9 of a package's property; `None` if its name has no type.
+fn package_type_error<'t>(
     alloc: Global,
     declarations: &Declarations<'t>,
     property: &PropertyRef<'t>,
@@ -65,32 +65,32 @@ fn in_package<'t>(
         ≡ option_map (mistyped_as property.now.name.now property.now.value.now) (look_up property.now.name.now (words declarations.now (Some PackageMark))) }
 {
     match package_type(alloc, property.name) {
-        Some(kind) => Some(not_of(&kind, property)),
+        Some(kind) => Some(mismatch_detail(&kind, property)),
         None => match declarations.kind(property.name) {
-            Some(kind) => Some(not_of(kind, property)),
+            Some(kind) => Some(mismatch_detail(kind, property)),
             None => None,
         },
     }
 }
 
-/// The same in a request.
-fn in_request<'t>(property: &PropertyRef<'t>) -> Option<Detail<'t>>
+/// The detail of E9 of a request's property; `None` if its name has no type.
+fn request_type_error<'t>(property: &PropertyRef<'t>) -> Option<Detail<'t>>
     ensures { option_map detail_view result
         ≡ option_map (mistyped_as property.now.name.now property.now.value.now) (look_up property.now.name.now request_words) }
 {
     if is_request_name(property.name) {
-        Some(not_of(&ValueType::List, property))
+        Some(mismatch_detail(&ValueType::List, property))
     } else {
         None
     }
 }
 
 /// The property, which isn't of this type.
-fn not_of<'t>(kind: &ValueType<'_>, property: &PropertyRef<'t>) -> Detail<'t>
+fn mismatch_detail<'t>(kind: &ValueType<'_>, property: &PropertyRef<'t>) -> Detail<'t>
     ensures { detail_view result
         ≡ mistyped_as property.now.name.now property.now.value.now (type_word (type_view kind.now)) }
 {
-    let entry = misfit(kind, property.value);
+    let entry = first_invalid_entry(kind, property.value);
     Detail::Mistyped {
         name: property.name,
         word: kind.word(),
@@ -104,13 +104,13 @@ fn misfit_text(value: &str, entry: Option<u64>) -> &str
     ensures { result.now ≡ misfit_text entry value.now }
 {
     match entry {
-        Some(number) => trim(part_at(value, number.saturating_sub(1)).unwrap_or("")),
+        Some(number) => trim(nth_part(value, number.saturating_sub(1)).unwrap_or("")),
         None => value,
     }
 }
 
 /// The part between commas at an index.
-fn part_at(text: &str, index: u64) -> Option<&str>
+fn nth_part(text: &str, index: u64) -> Option<&str>
     ensures { option_map (λ part. part.now) result ≡ slice_get (parts (byte ",") text.now) index }
 {
     text.split(',').nth(index as usize)
@@ -155,7 +155,7 @@ pub(crate) fn misdeclared<'t>(
     Ok(number.map(|declaration| Detail::Misdeclared { declaration }))
 }
 
-/// Its number.
+/// The number, from 1, of the first bad declaration of the property on this line; `None` if there is none.
 fn misdeclared_number(
     alloc: Global,
     stanza: &StanzaRef<'_>,
@@ -227,7 +227,7 @@ fn declare_piece<'t>(
 }
 
 /// The first name that is declared without a default, and that the stanza lacks.
-pub(crate) fn lacking<'t>(
+pub(crate) fn missing_name_detail<'t>(
     alloc: Global,
     declarations: &Declarations<'t>,
     stanza: &StanzaRef<'t>,

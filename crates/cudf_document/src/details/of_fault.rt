@@ -5,8 +5,8 @@ ghost use Rattle.cudf_document.specs.Details.{byte_detail, fault_detail, source_
 ghost use Rattle.cudf_document.specs.Promises.Views.{detail_view};
 ghost use Rattle.cudf_document.specs.Working.Details.{is_of_pair, is_of_stanza};
 
-use crate::details::invalid::{earlier_package, empty, invalid, unread};
-use crate::details::{Detail, find_stanza, told};
+use crate::details::invalid::{earlier_package, empty, invalid_bytes_detail, invalid_line_detail};
+use crate::details::{Detail, find_stanza, stanza_fault_detail};
 use cudf_text::{Fault, Kind, Room, Stanzas, source_of};
 use std::alloc::{AllocError, Global};
 
@@ -40,7 +40,7 @@ fn byte_detail<'t>(bytes: &[u8], kind: Kind) -> Option<Detail<'t>>
     ensures { ¬ (IsUtf8 bytes.now) → option_map detail_view result ≡ byte_detail kind bytes.now }
 {
     match kind {
-        Kind::E1 => invalid(bytes),
+        Kind::E1 => invalid_bytes_detail(bytes),
         _ => None,
     }
 }
@@ -55,7 +55,7 @@ fn source_detail<'t>(
     ensures { IfOk result (λ d. option_map detail_view d ≡ source_detail fault.kind source.now fault) }
 {
     match fault.kind {
-        Kind::E2 => Ok(unread(source, fault.line)),
+        Kind::E2 => Ok(invalid_line_detail(source, fault.line)),
         Kind::E13 => Ok(empty(source)),
         _ => text_detail(alloc, source, room, fault),
     }
@@ -77,7 +77,7 @@ fn text_detail<'t>(
         return Ok(None);
     }
     match find_stanza(alloc, Stanzas::new(alloc, source, room), fault.line)? {
-        Some(found) => told(alloc, &found, fault),
+        Some(found) => stanza_fault_detail(alloc, &found, fault),
         None => Ok(None),
     }
 }
@@ -89,7 +89,7 @@ fn is_of_pair(kind: Kind) -> bool
     matches!(kind, Kind::E11 | Kind::E15)
 }
 
-/// Whether it is another kind of which something is reported.
+/// Whether the detail of this kind is found in a stanza and those before it: E4, E6 to E10, E14 and E16.
 fn is_of_stanza(kind: Kind) -> bool
     ensures { result ≡ is_of_stanza kind }
 {

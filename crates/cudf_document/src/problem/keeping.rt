@@ -15,7 +15,7 @@ use std::{mem, str};
 
 /// The packages and the first request of the stanzas so far.
 #[derive(Drop)]
-pub(crate) struct Parts<'a> {
+pub(crate) struct ProblemBuilder<'a> {
     /// Whether packages are kept.
     pub(crate) keeps: bool,
     /// Where the names of packages are copied to, if they are.
@@ -24,7 +24,7 @@ pub(crate) struct Parts<'a> {
     pub(crate) request: Option<Request<'a>>,
 }
 
-impl<'a> Parts<'a> {
+impl<'a> ProblemBuilder<'a> {
     ghost use Rattle.std.specs.Prelude.{◌≡◌, ◌++◌, ◌∷◌, [], Bool, List, Some, true, false, map, option_map, option_to_list, is_some, if◌then◌else◌, IfOk, OnOk};
     ghost use Rattle.cudf_text.specs.Stanzas.{PlainProperty, PlainStanza};
     ghost use Rattle.cudf_text.specs.Promises.Views.{stanza_view};
@@ -44,7 +44,7 @@ impl<'a> Parts<'a> {
     pub(crate) fn new(alloc: Global, keeps: bool, names: Option<Names<'a>>) -> Self
         ensures { AreParts keeps [] result }
     {
-        Parts {
+        ProblemBuilder {
             keeps,
             names,
             packages: Vec::new(alloc),

@@ -17,8 +17,8 @@ use crate::declarations::{Declarations, lacks_one, read_preamble, require};
 use crate::fault::{fault_if, keep_lesser, lesser};
 use crate::names::{DocumentKind, SeenNames, is_preamble, misplaced_fault, postmark_of};
 use crate::package::Identity;
-use crate::problem::keeping::{Names, Parts};
-use cudf_problem::{Ids, Mode, Postmark};
+use crate::problem::keeping::{Names, ProblemBuilder};
+use cudf_problem::{Mode, PackageIds, Postmark};
 use cudf_text::{Fault, Kind, Next, StanzaRef, Stanzas};
 use std::alloc::{AllocError, Global};
 
@@ -29,10 +29,10 @@ pub(crate) fn walk_all<'t>(
     keeps: bool,
     names: Option<Names<'t>>,
     mode: Mode,
-) -> Result<(ProblemState<'t>, Parts<'t>), AllocError>
+) -> Result<(ProblemState<'t>, ProblemBuilder<'t>), AllocError>
     ensures { IfOk result (λ w. IsWhole mode (λ ss. AreParts keeps ss w.1) w.0 stanzas.entry) }
 {
-    let mut kept = Parts::new(alloc, keeps, names);
+    let mut kept = ProblemBuilder::new(alloc, keeps, names);
     let mut walk: ProblemState<'t> = ProblemState::new(alloc);
     take_stanzas(alloc, stanzas, &mut walk, &mut kept, mode)?;
     Ok((walk, kept))
@@ -43,7 +43,7 @@ fn take_stanzas<'t>(
     alloc: Global,
     stanzas: Stanzas<'t>,
     walk: &mut ProblemState<'t>,
-    kept: &mut Parts<'t>,
+    kept: &mut ProblemBuilder<'t>,
     mode: Mode,
 ) -> Result<(), AllocError>
     ensures { (keeps : Bool) →
@@ -96,7 +96,7 @@ pub(crate) struct ProblemState<'a> {
     pub(crate) first: Option<Fault>,
     /// What the first stanza declares.
     pub(crate) declarations: Declarations<'a>,
-    pub(crate) ids: Ids<'a>,
+    pub(crate) ids: PackageIds<'a>,
     /// Whether there was a request.
     pub(crate) requested: bool,
     pub(crate) names: SeenNames<'a>,
@@ -129,7 +129,7 @@ impl<'a> ProblemState<'a> {
         ProblemState {
             first: None,
             declarations: Declarations::new(alloc),
-            ids: Ids::new(alloc),
+            ids: PackageIds::new(alloc),
             requested: false,
             names: SeenNames::new(alloc),
         }
@@ -139,7 +139,7 @@ impl<'a> ProblemState<'a> {
     pub(crate) fn take(
         &mut self,
         alloc: Global,
-        kept: &mut Parts<'a>,
+        kept: &mut ProblemBuilder<'a>,
         stanza: &StanzaRef<'a>,
         ahead: Ahead<'_, '_>,
     ) -> Result<(), AllocError>
@@ -160,7 +160,7 @@ impl<'a> ProblemState<'a> {
     fn take_first(
         &mut self,
         alloc: Global,
-        kept: &mut Parts<'a>,
+        kept: &mut ProblemBuilder<'a>,
         stanza: &StanzaRef<'a>,
         mode: Mode,
     ) -> Result<(), AllocError>
@@ -215,7 +215,7 @@ impl<'a> ProblemState<'a> {
     fn take_other(
         &mut self,
         alloc: Global,
-        kept: &mut Parts<'a>,
+        kept: &mut ProblemBuilder<'a>,
         stanza: &StanzaRef<'a>,
         ahead: Ahead<'_, '_>,
     ) -> Result<(), AllocError>
@@ -247,7 +247,7 @@ impl<'a> ProblemState<'a> {
     fn judge(
         &mut self,
         alloc: Global,
-        kept: &mut Parts<'a>,
+        kept: &mut ProblemBuilder<'a>,
         mark: Option<Postmark>,
         stanza: &StanzaRef<'a>,
         required: &[&str],
@@ -284,7 +284,7 @@ impl<'a> ProblemState<'a> {
     fn take_package(
         &mut self,
         alloc: Global,
-        kept: &mut Parts<'a>,
+        kept: &mut ProblemBuilder<'a>,
         stanza: &StanzaRef<'a>,
         required: &[&str],
     ) -> Result<Option<Fault>, AllocError>
@@ -311,7 +311,7 @@ impl<'a> ProblemState<'a> {
             identity,
             stanza,
         )?;
-        let is_repeated = self.ids.insert_some(identity.id())?;
+        let is_repeated = self.ids.insert_repeated(identity.id())?;
         let missing = fault_if(lacks_one(required, &self.names), stanza.last, Kind::E14);
         let fault = lesser(
             fault,
@@ -374,12 +374,14 @@ fn is_request(mark: Option<Postmark>) -> bool
 }
 
 // for the prover, as the next one: a branch in the caller would double its goals
+/// A function for the prover: a branch in the caller would double its goals.
 fn either(one: bool, other: bool) -> bool
     ensures { result ≡ (one || other) }
 {
     one || other
 }
 
+/// A function for the prover: a branch in the caller would double its goals.
 fn at_least_one(lines: u64) -> u64
     ensures { result ≡ max 1 lines }
 {

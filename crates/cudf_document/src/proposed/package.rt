@@ -144,7 +144,7 @@ pub(crate) fn read_solution_package<'a>(
 
 /// What is declared after some stanzas of a solution. Leniently nothing is kept of it.
 #[derive(Drop)]
-pub(crate) struct Extras<'p, 'a> {
+pub(crate) struct DeclaredNames<'p, 'a> {
     pub(crate) mode: Mode,
     /// The names that the problem declares.
     pub(crate) of_problem: SeenNames<'p>,
@@ -152,7 +152,7 @@ pub(crate) struct Extras<'p, 'a> {
     pub(crate) own: Declarations<'a>,
 }
 
-impl<'p, 'a> Extras<'p, 'a> {
+impl<'p, 'a> DeclaredNames<'p, 'a> {
     ghost use Rattle.std.specs.Prelude.{◌≡◌, ℕ, List, [], ◌∷◌, ◌++◌, not, Some, IfOk, OnOk};
     ghost use Rattle.std.specs.List.{flat_map};
     ghost use Rattle.cudf_text.specs.Stanzas.{PlainStanza};
@@ -163,13 +163,13 @@ impl<'p, 'a> Extras<'p, 'a> {
     ghost use Rattle.cudf_problem.specs.declared.problem.Postmark.TheVariants.{Package as PackageMark};
     ghost use Rattle.cudf_document.specs.Faults.{least, fault_if};
     ghost use Rattle.cudf_document.specs.SolutionFaults.{undeclared_in_solution};
-    ghost use Rattle.cudf_document.specs.Working.Extras.{AreExtras, is_extra, names_with};
+    ghost use Rattle.cudf_document.specs.Working.DeclaredNames.{AreExtras, is_extra, names_with};
 
     /// Before the first stanza.
     pub(crate) fn new(alloc: Global, mode: Mode, problem: &Problem<'p>) -> Result<Self, AllocError>
         ensures { IfOk result (AreExtras mode problem.now.extra_names []) }
     {
-        Ok(Extras {
+        Ok(DeclaredNames {
             mode,
             of_problem: names_in(alloc, mode, problem)?,
             own: Declarations::new(alloc),
@@ -213,7 +213,7 @@ impl<'p, 'a> Extras<'p, 'a> {
         }
     }
 
-    /// The first fault of a property that isn't among them.
+    /// The first E8: a property whose name is neither reserved nor declared.
     fn first_undeclared(&self, stanza: &StanzaRef<'_>) -> Option<Fault>
         ensures { result
             ≡ least (flat_map (λ p. fault_if (not (is_extra self.now p.name)) p.line E8) (stanza_view stanza.now).properties) }

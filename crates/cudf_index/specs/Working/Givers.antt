@@ -6,9 +6,9 @@ use Rattle.cudf_value.specs.declared.vpkg.Relop.{Relop}
 use Rattle.cudf_index.specs.Promises.Counts.{count_pairs, differ}
 use Rattle.cudf_index.specs.Promises.Places.{gives_number}
 use Rattle.cudf_index.specs.Satisfaction.{Placed, is_below_one, meets_alone}
-use Rattle.cudf_index.specs.Working.Extents.{count_over, is_same, sole_number}
+use Rattle.cudf_index.specs.Working.NumbersByPackage.{count_over, is_same, sole_number}
 use Rattle.cudf_index.specs.Working.ProvisionTest.{passes}
-use Rattle.cudf_index.specs.declared.index.extents.Extents.{Extents}
+use Rattle.cudf_index.specs.declared.index.extents.NumbersByPackage.{NumbersByPackage}
 use Rattle.cudf_index.specs.declared.index.counts.PackageNumbers.{PackageNumbers}
 use Rattle.cudf_index.specs.declared.index.gathered_names.Provision.{Provision}
 use Rattle.cudf_index.specs.declared.index.counts.Gathering.{Gathering}
@@ -47,7 +47,7 @@ runs_differ run other = numbers_differ (numbers_given run) (numbers_given other)
 -- ---- the numbers of packages
 
 -- of packages that give numbers: how many give one that meets the bound
-abbrev pub count_within : Option (Relop × ℕ) → Extents → ℕ
+abbrev pub count_within : Option (Relop × ℕ) → NumbersByPackage → ℕ
 count_within bound e = count_over bound e.least e.greatest e.each e.only
 
 abbrev pub count_gathered : Option (Relop × ℕ) → PackageNumbers → ℕ
@@ -61,7 +61,7 @@ pub record Adds (numbers : List ℕ) (old new : PackageNumbers) : Type 0 where
   pub only : new.only.items ≡ old.only.items ++ option_to_list (sole_number numbers)
 
 -- the same in order
-pub record Sorts (u : PackageNumbers) (e : Extents) : Type 0 where
+pub record Sorts (u : PackageNumbers) (e : NumbersByPackage) : Type 0 where
   pub within : (bound : Option (Relop × ℕ)) → count_within bound e ≡ count_gathered bound u
   pub pairs : count_pairs is_same e.only ≡ count_pairs is_same u.only.items
 

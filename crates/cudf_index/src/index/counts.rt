@@ -8,20 +8,20 @@ ghost use Rattle.cudf_index.specs.Promises.Places.{gives_number};
 ghost use Rattle.cudf_index.specs.Satisfaction.{meets_alone};
 ghost use Rattle.cudf_index.specs.Working.Givers.{CountsOf, Counted, Gathers, count_meeting, count_within, runs, Adds, Sorts};
 ghost use Rattle.cudf_index.specs.Working.Gathering.{BothAt};
-ghost use Rattle.cudf_index.specs.Working.Extents.{sole_number};
+ghost use Rattle.cudf_index.specs.Working.NumbersByPackage.{sole_number};
 
 use crate::index::Index;
-use crate::index::extents::{Extents, differing};
+use crate::index::extents::{NumbersByPackage, differing};
 use crate::index::gathered_names::{Provision, Row, is_below_one, push_some, put_numbers};
 use crate::index::named_trees::NamedTrees;
-use crate::index::sorted::Sorted;
-use crate::index::union::make_unique;
+use crate::index::sorted::SortedNumbers;
+use crate::index::union::sort_and_dedup;
 use cudf_value::{Relop, Vpkg};
 use std::alloc::{AllocError, Global};
 use std::marker::Model;
 
-/// The packages of a status, to be asked how many of them answer (CUDF 2.0, installations and features). A question costs
-/// a look-up by name and two searches.
+/// Counts the packages of a status that satisfy a vpkg or provide numbers of a name, without listing them. A question
+/// costs a look-up by name and two searches.
 ///
 /// Contracts see each package beside its place in the universe, in the order of the places.
 #[derive(Drop)]
@@ -113,9 +113,9 @@ impl<'p, 't> Index<'p, 't> {
 #[derive(Drop)]
 pub(crate) struct Givers {
     /// Of those that give numbers.
-    numbers: Extents,
+    numbers: NumbersByPackage,
     /// Of those of them that don't give all versions too.
-    pure: Extents,
+    pure: NumbersByPackage,
     /// How many give all versions.
     unversioned: usize,
     /// How many pairs of them give two different numbers: each package with itself, and with each after it.
@@ -201,7 +201,7 @@ impl Gathering {
         ensures unversioned { OnOk result (self.new.unversioned ≤ self.old.unversioned + 1) }
     {
         put_numbers(run, &mut self.run)?;
-        make_unique(&mut self.run);
+        sort_and_dedup(&mut self.run);
         self.numbers.add(&self.run)?;
         if any_unversioned(run) {
             self.unversioned += 1;
@@ -271,15 +271,15 @@ impl PackageNumbers {
     }
 
     /// All of them, in order.
-    pub(crate) fn sorted(self) -> Extents
+    pub(crate) fn sorted(self) -> NumbersByPackage
         requires { length self.only.items ≤ length self.least.items }
         ensures { Sorts self result }
     {
-        Extents {
-            least: Sorted::new(self.least),
-            greatest: Sorted::new(self.greatest),
-            each: Sorted::new(self.each),
-            only: Sorted::new(self.only),
+        NumbersByPackage {
+            least: SortedNumbers::new(self.least),
+            greatest: SortedNumbers::new(self.greatest),
+            each: SortedNumbers::new(self.each),
+            only: SortedNumbers::new(self.only),
         }
     }
 }

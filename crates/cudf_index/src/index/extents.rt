@@ -2,28 +2,28 @@
 ghost use Rattle.std.specs.Prelude.{◌≡◌, ◌≤◌, ◌+◌, ◌-◌, ◌*◌, ◌/◌, ◌==◌, length};
 ghost use Rattle.std.specs.List.{count_by};
 ghost use Rattle.cudf_index.specs.Promises.Counts.{count_pairs};
-ghost use Rattle.cudf_index.specs.Working.Extents.{count_over, is_same};
+ghost use Rattle.cudf_index.specs.Working.NumbersByPackage.{count_over, is_same};
 
-use crate::index::sorted::Sorted;
+use crate::index::sorted::SortedNumbers;
 use crate::steps::Steps;
 use cudf_value::Relop;
 
 /// What packages that give numbers of a name give of it. A package gives a number that meets a bound exactly where its
 /// least or its greatest does, or where the bound is that of one number.
 #[derive(Drop)]
-pub(crate) struct Extents {
+pub(crate) struct NumbersByPackage {
     /// The least number of each package.
-    pub(crate) least: Sorted,
+    pub(crate) least: SortedNumbers,
     /// The greatest of each.
-    pub(crate) greatest: Sorted,
+    pub(crate) greatest: SortedNumbers,
     /// All numbers, those of one package each once.
-    pub(crate) each: Sorted,
+    pub(crate) each: SortedNumbers,
     /// The numbers of those packages that give one alone.
-    pub(crate) only: Sorted,
+    pub(crate) only: SortedNumbers,
     ghost fewer: { length only ≤ length least },
 }
 
-impl Extents {
+impl NumbersByPackage {
     /// How many of the packages give a number that meets the bound.
     pub(crate) fn count(&self, bound: Option<(Relop, u64)>) -> usize
         ensures { result ≡ count_over bound self.now.least self.now.greatest self.now.each self.now.only }
@@ -49,7 +49,7 @@ impl Extents {
 
 /// How many pairs of packages give two different numbers, each package with itself, and with each after it: of all pairs
 /// those that don't are of two packages that give one number alone, and the same.
-pub(crate) fn differing(numbers: &Extents) -> u128
+pub(crate) fn differing(numbers: &NumbersByPackage) -> u128
     ensures { result ≡ (length numbers.now.least * length numbers.now.least + length numbers.now.least - 2 * count_pairs is_same numbers.now.only) / 2 }
 {
     let all = numbers.least.len() as u128;
@@ -58,7 +58,7 @@ pub(crate) fn differing(numbers: &Extents) -> u128
 }
 
 /// How many ordered pairs of the numbers are equal, each number with itself too.
-fn equal_pairs(numbers: &Sorted) -> u128
+fn equal_pairs(numbers: &SortedNumbers) -> u128
     ensures counted { result + length numbers.now ≡ 2 * count_pairs is_same numbers.now }
     ensures within { result ≤ length numbers.now * length numbers.now }
 {

@@ -10,7 +10,7 @@ ghost use Rattle.cudf_index.specs.Satisfaction.{is_below_one};
 ghost use Rattle.cudf_index.specs.Working.Rows.{provisions_in};
 
 use crate::index::member::Member;
-use crate::index::sorted::Sorted;
+use crate::index::sorted::SortedNumbers;
 use crate::steps::Steps;
 use cudf_value::{Relop, VpkgList};
 use indexmap::IndexSet;
@@ -138,29 +138,29 @@ impl<'t> GatheredNames<'t> {
 }
 
 /// What is kept of each row.
-pub(crate) fn entries_of(alloc: Global, rows: &[Row]) -> Result<Vec<Entries>, AllocError>
+pub(crate) fn summarize_all(alloc: Global, rows: &[Row]) -> Result<Vec<Entries>, AllocError>
     ensures { IfOk result (λ entries. (k : ℕ) → CompletesAt (slice_get rows.now k) (slice_get entries.items k)) }
 {
     let mut entries = Vec::with_capacity(alloc, rows.len())?;
     for row in rows {
-        entries.push(completed(alloc, row.as_slice())?)?;
+        entries.push(summarize(alloc, row.as_slice())?)?;
     }
     Ok(entries)
 }
 
 /// What is kept of a row: its numbers in ascending order, how many provisions have none, the
 /// place where it is the only one, and whether there is a package's version.
-pub(crate) fn completed(alloc: Global, row: &[Provision]) -> Result<Entries, AllocError>
+pub(crate) fn summarize(alloc: Global, row: &[Provision]) -> Result<Entries, AllocError>
     ensures { IfOk result (Completes row.now) }
 {
     if let [provision] = row {
-        return Ok(alone(alloc, *provision));
+        return Ok(summarize_one(alloc, *provision));
     }
     let mut numbers = Vec::with_capacity(alloc, row.len())?;
     put_numbers(row, &mut numbers)?;
     let unversioned = row.len() - numbers.len();
     Ok(Entries {
-        numbers: Sorted::new(numbers),
+        numbers: SortedNumbers::new(numbers),
         unversioned,
         sole: sole_place(row),
         is_package: any_version(row),
@@ -179,7 +179,7 @@ pub(crate) fn put_numbers(row: &[Provision], numbers: &mut Vec<u64>) -> Result<(
 }
 
 /// What is kept of a row of one provision, as most rows are. It takes no memory.
-fn alone(alloc: Global, provision: Provision) -> Entries
+fn summarize_one(alloc: Global, provision: Provision) -> Entries
     ensures { Completes (provision ∷ []) result }
 {
     let Provision {
@@ -188,8 +188,8 @@ fn alone(alloc: Global, provision: Provision) -> Entries
         is_version,
     } = provision;
     let (numbers, unversioned) = match number {
-        Some(number) => (Sorted::one(number), 0),
-        None => (Sorted::none(alloc), 1),
+        Some(number) => (SortedNumbers::one(number), 0),
+        None => (SortedNumbers::none(alloc), 1),
     };
     Entries {
         numbers,
@@ -241,7 +241,7 @@ pub(crate) fn push_some(numbers: &mut Vec<u64>, number: Option<u64>) -> Result<(
 /// packages that give it has the name.
 #[derive(Drop)]
 pub(crate) struct Entries {
-    pub(crate) numbers: Sorted,
+    pub(crate) numbers: SortedNumbers,
     pub(crate) unversioned: usize,
     pub(crate) sole: Option<u64>,
     pub(crate) is_package: bool,

@@ -10,7 +10,7 @@ ghost use Rattle.cudf_index.specs.Working.Members.{lesser_of, member_view};
 ghost use Rattle.cudf_index.specs.Promises.Prices.{own_entries};
 ghost use Rattle.cudf_index.specs.Working.Shares.{GivesMuch, AreShares};
 
-use crate::index::gathered_names::{Entries, GatheredNames, MetCounts, entries_of};
+use crate::index::gathered_names::{Entries, GatheredNames, MetCounts, summarize_all};
 use crate::steps::Steps;
 use cudf_problem::{Package, Problem, Status};
 use cudf_value::{Vpkg, VpkgList, meets};
@@ -139,14 +139,14 @@ const MANY: usize = 64;
 
 /// What one package of a status gives, by name. Contracts see the package beside its place.
 #[derive(Drop)]
-pub(crate) struct Share<'p, 't> {
+pub(crate) struct PackageProvisions<'p, 't> {
     member: Member<'p, 't>,
     names: IndexSet<&'t str>,
     /// What the package gives of each name.
     entries: Vec<Entries>,
 }
 
-impl<'p, 't> Model for Share<'p, 't> {
+impl<'p, 't> Model for PackageProvisions<'p, 't> {
     ghost use Rattle.std.specs.Prelude.{List, ℕ, [], ◌∷◌, bytes_eq};
     ghost use Rattle.cudf_index.specs.Satisfaction.{Placed};
     ghost use Rattle.cudf_index.specs.Working.Kept.{Keeps, found};
@@ -160,7 +160,7 @@ impl<'p, 't> Model for Share<'p, 't> {
     ghost invariant = { λ s. ((name : List ℕ) → Keeps name (member_view s.member ∷ []) (found (λ k. bytes_eq name k.now) s.names.keys s.entries.items)) × GivesMuch (member_view s.member) };
 }
 
-impl<'p, 't> Share<'p, 't> {
+impl<'p, 't> PackageProvisions<'p, 't> {
     /// What this package gives.
     fn new(alloc: Global, member: Member<'p, 't>) -> Result<Self, AllocError>
         requires { GivesMuch (member_view member) }
@@ -168,8 +168,8 @@ impl<'p, 't> Share<'p, 't> {
     {
         let mut gathered = GatheredNames::new(alloc);
         gathered.add_package(alloc, member)?;
-        let entries = entries_of(alloc, &gathered.rows)?;
-        Ok(Share {
+        let entries = summarize_all(alloc, &gathered.rows)?;
+        Ok(PackageProvisions {
             member,
             names: gathered.names,
             entries,
@@ -228,14 +228,14 @@ pub(crate) fn shares_of<'p, 't>(
     alloc: Global,
     problem: &'p Problem<'t>,
     status: &Status,
-) -> Result<Vec<Share<'p, 't>>, AllocError>
+) -> Result<Vec<PackageProvisions<'p, 't>>, AllocError>
     ensures { IfOk result (λ shares. AreShares (members (set.contains status.now) problem.now.packages) shares.items) }
 {
     let mut shares = Vec::new(alloc);
     for (before, package) in problem.packages().iter().enumerate() {
         let place = before as u64 + 1;
         if status.holds(place) && package.provides.len() >= MANY {
-            shares.push(Share::new(alloc, Member { place, package })?)?;
+            shares.push(PackageProvisions::new(alloc, Member { place, package })?)?;
         }
     }
     Ok(shares)

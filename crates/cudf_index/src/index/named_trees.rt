@@ -12,7 +12,7 @@ ghost use Rattle.cudf_index.specs.Promises.Members.{outside};
 ghost use Rattle.cudf_index.specs.Satisfaction.{first_meeting, first_named};
 
 use crate::index::gathered_names::{
-    Entries, GatheredNames, Provision, Row, completed, is_below_one,
+    Entries, GatheredNames, Provision, Row, is_below_one, summarize,
 };
 use crate::index::member::Member;
 use crate::steps::Steps;
@@ -177,7 +177,7 @@ impl ProvisionTree {
             });
         }
         let (front, back) = row.split_at(row.len() / 2);
-        let entries = Box::new(alloc, completed(alloc, front)?)?;
+        let entries = Box::new(alloc, summarize(alloc, front)?)?;
         let front = Box::new(alloc, Self::build(alloc, front)?)?;
         let back = Box::new(alloc, Self::build(alloc, back)?)?;
         Ok(ProvisionTree {
@@ -272,6 +272,8 @@ fn is_sole(except: Option<u64>, sole: Option<u64>) -> bool
     }
 }
 
+/// The place of the first provision of the row at another place than `except` that meets the bound; `None` if there is
+/// none.
 pub(crate) fn first_of(
     row: &[Provision],
     bound: Option<(Relop, u64)>,
@@ -335,7 +337,7 @@ impl ProvisionTest {
         }
     }
 
-    /// Whether one of those that were counted is.
+    /// Whether one of the provisions that `entries` sums up passes.
     pub(crate) fn some_passes(self, entries: &Entries) -> bool
         ensures { result ≡ some_passes self entries.now }
     {

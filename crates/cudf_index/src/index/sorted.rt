@@ -17,11 +17,11 @@ use std::slice;
 
 /// Numbers in ascending order, with repeats.
 #[derive(Drop)]
-pub(crate) struct Sorted {
+pub(crate) struct SortedNumbers {
     numbers: Numbers,
 }
 
-impl Model for Sorted {
+impl Model for SortedNumbers {
     ghost use Rattle.std.specs.Prelude.{List, ℕ};
     ghost use Rattle.std.specs.List.Sorted.{IsNonDecreasing};
     ghost use Rattle.cudf_index.specs.Working.Numbers.{numbers_in};
@@ -33,12 +33,12 @@ impl Model for Sorted {
     ghost invariant = { λ s. IsNonDecreasing (numbers_in s.numbers) };
 }
 
-impl Sorted {
+impl SortedNumbers {
     /// No numbers. It takes no memory.
     pub(crate) fn none(alloc: Global) -> Self
         ensures { result ≡ [] }
     {
-        Sorted {
+        SortedNumbers {
             numbers: Numbers::Others(Vec::new(alloc)),
         }
     }
@@ -47,7 +47,7 @@ impl Sorted {
     pub(crate) fn one(number: u64) -> Self
         ensures { result ≡ number ∷ [] }
     {
-        Sorted {
+        SortedNumbers {
             numbers: Numbers::One(number),
         }
     }
@@ -60,7 +60,7 @@ impl Sorted {
     {
         let mut numbers = numbers;
         numbers.sort_unstable();
-        Sorted {
+        SortedNumbers {
             numbers: Numbers::new(numbers),
         }
     }
@@ -172,6 +172,7 @@ impl Sorted {
         self.numbers.as_slice()
     }
 
+    /// How many of the numbers are equal to this one.
     fn equal(&self, number: u64, steps: &mut Steps) -> usize
         ensures counted { result ≡ count_by (λ n. n == number) self.now }
         ensures price { steps.new ≤ steps.old + 2 * digits (length self.now) }
@@ -181,6 +182,7 @@ impl Sorted {
         up_to - self.under(number, steps)
     }
 
+    /// How many of the numbers are less than this one.
     fn under(&self, number: u64, steps: &mut Steps) -> usize
         ensures counted { result ≡ count_by (λ n. nat_lt n number) self.now }
         ensures price { steps.new ≤ steps.old + digits (length self.now) }
@@ -189,6 +191,7 @@ impl Sorted {
         self.below(u128::from(number), self.len(), steps)
     }
 
+    /// How many of the numbers are at most this one.
     fn up_to(&self, number: u64, steps: &mut Steps) -> usize
         ensures counted { result ≡ count_by (λ n. nat_le n number) self.now }
         ensures price { steps.new ≤ steps.old + digits (length self.now) }
@@ -220,7 +223,7 @@ impl Sorted {
         low
     }
 
-    /// The only call that reads a number.
+    /// The number at this index, from 0, for one step. No other function reads numbers.
     fn at(&self, place: usize, steps: &mut Steps) -> u64
         requires { place < length self.now }
         ensures value { (d : ℕ) → result ≡ slice_index_or self.now place d }

@@ -41,7 +41,7 @@ impl<'p, 't> Index<'p, 't> {
             return Ok(true);
         }
         self.put_answers(&mut questions, places)?;
-        make_unique(places);
+        sort_and_dedup(places);
         Ok(places.contains(&own))
     }
 
@@ -60,12 +60,13 @@ impl<'p, 't> Index<'p, 't> {
             if self.put_or_ask_atom(&atom, own, places, questions)? {
                 return Ok(true);
             }
-            make_unique_if_long(places, self.problem.packages().len());
+            sort_and_dedup_if_long(places, self.problem.packages().len());
         }
         Ok(false)
     }
 
-    /// The same of an atom.
+    /// Adds the places of the packages that alone satisfy the atom, but for the answers to the question that it may
+    /// add; may return `true` instead where the package at `own` is one.
     fn put_or_ask_atom<'c>(
         &self,
         atom: &Atom<'c>,
@@ -139,11 +140,11 @@ impl<'p, 't> Index<'p, 't> {
     ) -> Result<Option<Vpkg<'c>>, AllocError>
         ensures { IfOk result (λ last. AnswersMore question.now self.now asked.entry places.old.items last places.new.items) }
     {
-        let Some(wanted) = left_to_ask(asked, question) else {
+        let Some(wanted) = unanswered_part(asked, question) else {
             return Ok(asked);
         };
         self.given.all(question.name, wanted, places)?;
-        make_unique_if_long(places, self.problem.packages().len());
+        sort_and_dedup_if_long(places, self.problem.packages().len());
         Ok(Some(*question))
     }
 
@@ -159,7 +160,8 @@ impl<'p, 't> Index<'p, 't> {
         false
     }
 
-    /// The same of an atom.
+    /// Whether the package at this place, from 1, alone satisfies the atom; not where the status doesn't hold the
+    /// place.
     fn satisfies_atom_at(&self, atom: &Atom<'_>, place: u64) -> bool
         ensures { result ≡ passes_at (meets_atom_alone (atom_view atom.now)) place self.now }
     {
@@ -204,7 +206,7 @@ impl<'p, 't> Index<'p, 't> {
 }
 
 /// Puts the numbers in ascending order, each once.
-pub(crate) fn make_unique(places: &mut Vec<u64>)
+pub(crate) fn sort_and_dedup(places: &mut Vec<u64>)
     ensures rises { IsStrictlyIncreasing places.new.items }
     ensures same { HoldsSame places.old.items places.new.items }
 {
@@ -212,13 +214,13 @@ pub(crate) fn make_unique(places: &mut Vec<u64>)
     places.dedup();
 }
 
-/// The same, if they are more than twice as many as there are different ones.
-fn make_unique_if_long(places: &mut Vec<u64>, different: usize)
+/// Sorts the places and drops repeated ones, if they are more than twice `different`.
+fn sort_and_dedup_if_long(places: &mut Vec<u64>, different: usize)
     ensures same { HoldsSame places.old.items places.new.items }
     ensures few { IsStrictlyIncreasing places.new.items ⊎ (length places.new.items ≤ 2 * different + 1) }
 {
     if places.len() / 2 > different {
-        make_unique(places);
+        sort_and_dedup(places);
     }
 }
 
@@ -226,10 +228,11 @@ fn make_unique_if_long(places: &mut Vec<u64>, different: usize)
 /// most numbers meet first.
 pub(crate) fn compare_questions(first: &Vpkg<'_>, second: &Vpkg<'_>) -> Ordering {
     let name = first.name.cmp(second.name);
-    name.then(rank(first.bound).cmp(&rank(second.bound)))
+    name.then(question_key(first.bound).cmp(&question_key(second.bound)))
 }
 
-fn rank(bound: Option<(Relop, u64)>) -> (u8, u64) {
+/// The key by which questions of one name are sorted: the operator, and of one operator the weakest bound first.
+fn question_key(bound: Option<(Relop, u64)>) -> (u8, u64) {
     match bound {
         None => (0, 0),
         Some((Relop::Neq, number)) => (1, number),
@@ -242,20 +245,23 @@ fn rank(bound: Option<(Relop, u64)>) -> (u8, u64) {
 }
 
 /// What is left to ask of a question where another one is answered.
-pub(crate) fn left_to_ask(asked: Option<Vpkg<'_>>, question: &Vpkg<'_>) -> Option<ProvisionTest>
+pub(crate) fn unanswered_part(asked: Option<Vpkg<'_>>, question: &Vpkg<'_>) -> Option<ProvisionTest>
     ensures { Leaves asked.entry question.now result }
 {
     let Some(asked) = asked else {
         return Some(ProvisionTest::Meeting(question.bound));
     };
     if asked.name == question.name {
-        return left_of(asked.bound, question.bound);
+        return unanswered_for_name(asked.bound, question.bound);
     }
     Some(ProvisionTest::Meeting(question.bound))
 }
 
-/// The same of two bounds of one name.
-fn left_of(asked: Option<(Relop, u64)>, bound: Option<(Relop, u64)>) -> Option<ProvisionTest>
+/// What is left to ask of a bound where another bound of the same name is answered; `None` if nothing is.
+fn unanswered_for_name(
+    asked: Option<(Relop, u64)>,
+    bound: Option<(Relop, u64)>,
+) -> Option<ProvisionTest>
     ensures { LeavesBound asked bound result }
 {
     let Some((by, met)) = asked else {
@@ -265,7 +271,7 @@ fn left_of(asked: Option<(Relop, u64)>, bound: Option<(Relop, u64)>) -> Option<P
         return Some(ProvisionTest::Meeting(bound));
     };
     if by == relop {
-        return left_by(relop, met, number);
+        return unanswered_for_operator(relop, met, number);
     }
     if relop == Relop::Eq && !is_below_one(asked) {
         return Some(ProvisionTest::Number(bound));
@@ -273,14 +279,15 @@ fn left_of(asked: Option<(Relop, u64)>, bound: Option<(Relop, u64)>) -> Option<P
     Some(ProvisionTest::Meeting(bound))
 }
 
-/// The same of two bounds with one operator.
-fn left_by(relop: Relop, asked: u64, number: u64) -> Option<ProvisionTest>
+/// What is left to ask of the bound with `number` where the one with `asked` and the same operator is answered; `None`
+/// if nothing is.
+fn unanswered_for_operator(relop: Relop, asked: u64, number: u64) -> Option<ProvisionTest>
     ensures { LeavesBound (Some (relop, asked)) (Some (relop, number)) result }
 {
     if covers(relop, asked, number) {
         return None;
     }
-    Some(rest_of(relop, asked, number))
+    Some(uncovered_part(relop, asked, number))
 }
 
 /// Whether all that meet the second of two bounds with one operator meet the first.
@@ -296,8 +303,8 @@ fn covers(relop: Relop, asked: u64, number: u64) -> bool
     }
 }
 
-/// What is left of the second where they don't.
-fn rest_of(relop: Relop, asked: u64, number: u64) -> ProvisionTest
+/// What the bound with `number` admits and the one with `asked` doesn't cover.
+fn uncovered_part(relop: Relop, asked: u64, number: u64) -> ProvisionTest
     ensures { result ≡ rest_of relop asked number }
 {
     match relop {

@@ -36,6 +36,7 @@ impl Key {
 }
 
 impl Part {
+    /// The part that is printed as this text, as `p3`. `None` where none is.
     fn parse(text: &str) -> Option<Part>
         ensures printed { IfSome result (λ part. (part_row part).1 ≡ text.now) }
         ensures exact { (part : Part) → part_place part < 2 ^ 64 → (part_row part).1 ≡ text.now → result ≡ Some part }
@@ -67,6 +68,7 @@ impl Part {
 }
 
 impl Rule {
+    /// The rule that is printed as this text, as `depends`. `None` where none is.
     fn parse(text: &str) -> Option<Rule>
         ensures printed { IfSome result (λ rule. (rule_row rule).1 ≡ text.now) }
         ensures exact { (rule : Rule) → (rule_row rule).1 ≡ text.now → result ≡ Some rule }
@@ -85,6 +87,7 @@ impl Rule {
 }
 
 impl Aspect {
+    /// The aspect that is printed as this text, as `many`. `None` where none is.
     fn parse(text: &str) -> Option<Aspect>
         ensures printed { IfSome result (λ aspect. aspect_word aspect ≡ text.now) }
         ensures exact { (aspect : Aspect) → aspect_word aspect ≡ text.now → result ≡ Some aspect }

@@ -8,12 +8,12 @@ use Rattle.cudf_lrat.specs.declared.checker.ProofState.{ProofState}
 use Rattle.cudf_lrat.specs.declared.checker.ProofState.TheVariants.{On, Refuted, Fault}
 use Rattle.cudf_lrat.specs.declared.assignment.ClauseStatus.{ClauseStatus}
 use Rattle.cudf_lrat.specs.declared.assignment.ClauseStatus.TheVariants.{Conflict, Unit, NotUnit}
-use Rattle.cudf_lrat.specs.declared.reader.Signed.{Signed}
+use Rattle.cudf_lrat.specs.declared.reader.SignedNumber.{SignedNumber}
 use Rattle.cudf_lrat.specs.declared.reader.ProofLine.{ProofLine}
 use Rattle.cudf_lrat.specs.declared.reader.ProofLine.TheVariants.{Skipped, Step, Invalid}
 
 -- with the literals and the hints of a step
-abbrev pub line_view : ProofLine → List Signed → List Signed → lines.ProofLine
+abbrev pub line_view : ProofLine → List SignedNumber → List SignedNumber → lines.ProofLine
 line_view Skipped literals hints = lines.skipped
 line_view (Step number) literals hints = lines.step number literals hints
 line_view Invalid literals hints = lines.invalid

@@ -24,6 +24,6 @@ returns-else-takes_standard g c = inl (record {
 pub returns-in-Err : goal.returns-in-Err
 returns-in-Err g c = inr (record {
   unread = keeps_all (g.I.Read.remaining c.args.standard.now);
-  fails = told g.W.Sink.state (IsOfWords (map string_bytes c.args.words.now)) (Usage c.in-Err.usage) c.args.out.now c.fail.new.out c.fail.result
-      (c.in-Err.usage, refl, c.in-Err.ensures.asks) c.fail.ensures.status c.fail.ensures.printed c.fail.ensures.quiet;
+  fails = told g.W.Sink.state (IsOfWords (map string_bytes c.args.words.now)) (Usage c.in-Err.usage) c.args.out.now c.report_failure.new.out c.report_failure.result
+      (c.in-Err.usage, refl, c.in-Err.ensures.asks) c.report_failure.ensures.status c.report_failure.ensures.printed c.report_failure.ensures.quiet;
 })

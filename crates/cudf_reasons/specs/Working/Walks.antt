@@ -3,11 +3,11 @@ use Rattle.std.specs.Prelude.{◌≡◌, ℕ, ◌<◌, ◌≤◌, Bool, true, fa
 use Rattle.cudf_job.specs.Keys.{ascend}
 use Rattle.cudf_reasons.specs.Reasons.{PlainReason, is_asked, is_kept, is_brought_by, is_new}
 use Rattle.cudf_reasons.specs.Working.Tables.{reason_at}
-use Rattle.cudf_reasons.specs.declared.gathering.Root.{Root}
-use Rattle.cudf_reasons.specs.declared.gathering.Root.TheVariants.{Asked, Kept, Any}
+use Rattle.cudf_reasons.specs.declared.gathering.ReasonGroup.{ReasonGroup}
+use Rattle.cudf_reasons.specs.declared.gathering.ReasonGroup.TheVariants.{Asked, Kept, Any}
 use Rattle.cudf_reasons.specs.declared.gathering.Run.{Run}
 
-abbrev pub is_root : Root → PlainReason → Bool
+abbrev pub is_root : ReasonGroup → PlainReason → Bool
 is_root Asked reason = is_asked reason
 is_root Kept reason = is_kept reason
 is_root Any reason = true

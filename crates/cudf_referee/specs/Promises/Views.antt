@@ -2,12 +2,12 @@
 use Rattle.std.specs.Prelude.{option_map}
 use Rattle.cudf_value.specs.Promises.Views.{vpkg_view, clause_view}
 use Rattle.cudf_referee.specs.declared.instance.Instance.{Instance}
-use Rattle.cudf_referee.specs.declared.instance.What.{What}
-use Rattle.cudf_referee.specs.declared.instance.What.TheVariants.{Needs, ConflictsWith, KeepVersion, KeepPackage, KeepFeature, Install, Remove, Upgrade, Unknown}
+use Rattle.cudf_referee.specs.declared.instance.Requirement.{Requirement}
+use Rattle.cudf_referee.specs.declared.instance.Requirement.TheVariants.{Needs, ConflictsWith, KeepVersion, KeepPackage, KeepFeature, Install, Remove, Upgrade, Unknown}
 use Rattle.cudf_job.specs.KeyViews.{key_view}
 use Rattle.cudf_referee.specs.Instances.{PlainWhat, needs, conflicts_with, keep_version, keep_package, keep_feature, install, remove, upgrade, unknown, PlainInstance}
 
-abbrev pub what_view : What → PlainWhat
+abbrev pub what_view : Requirement → PlainWhat
 what_view (Needs clause) = needs (clause_view clause)
 what_view (ConflictsWith v) = conflicts_with (vpkg_view v)
 what_view KeepVersion = keep_version

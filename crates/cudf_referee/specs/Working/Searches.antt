@@ -4,16 +4,16 @@ use Rattle.std.specs.List.{flat_map, enumerate_from}
 use Rattle.cudf_problem.specs.Statuses.{PlainUnknown}
 use Rattle.cudf_index.specs.Satisfaction.{Placed}
 use Rattle.cudf_referee.specs.declared.referee.instances.Cursor.{Cursor}
-use Rattle.cudf_referee.specs.declared.left.Left.{Left}
-use Rattle.cudf_referee.specs.declared.left.RequestLeft.{RequestLeft}
+use Rattle.cudf_referee.specs.declared.left.PackageInstancesLeft.{PackageInstancesLeft}
+use Rattle.cudf_referee.specs.declared.left.RequestInstancesLeft.{RequestInstancesLeft}
 use Rattle.cudf_referee.specs.Instances.{PlainInstance}
 use Rattle.cudf_referee.specs.Proposals.{Proposal}
 use Rattle.cudf_referee.specs.Promises.Stops.{cost, Stop, stop_at, package_end, package_stops, stop_cost, least_cost}
 use Rattle.cudf_referee.specs.Promises.Walks.{Walking}
 use Rattle.cudf_referee.specs.Violations.{unknown_instance}
 use Rattle.cudf_referee.specs.Working.Judged.{given_at}
-use Rattle.cudf_referee.specs.Working.RequestLeft.{request_left_view}
-use Rattle.cudf_referee.specs.Working.PackageLeft.{left_in, left_view}
+use Rattle.cudf_referee.specs.Working.RequestInstancesLeft.{request_left_view}
+use Rattle.cudf_referee.specs.Working.PackageInstancesLeft.{left_in, left_view}
 
 -- ---- searches
 
@@ -69,18 +69,18 @@ ComesTo all (Some i) left = Comes all i left
 -- ---- what is left
 
 -- of a package, of which these instances are left
-abbrev pub package_left : Placed → Left → List Stop
+abbrev pub package_left : Placed → PackageInstancesLeft → List Stop
 package_left p left = map stop_at (left_view p left) ++ package_end p.0 ∷ []
 
-abbrev pub package_rest : Proposal → Option Left → Placed → List Stop
+abbrev pub package_rest : Proposal → Option PackageInstancesLeft → Placed → List Stop
 package_rest s left p = map stop_at (left_in s left p) ++ package_end p.0 ∷ []
 
 -- of these packages, where of the first one these instances are left
-abbrev pub packages_rest : Proposal → Option Left → List Placed → List Stop
+abbrev pub packages_rest : Proposal → Option PackageInstancesLeft → List Placed → List Stop
 packages_rest s left [] = []
 packages_rest s left (p ∷ ps) = package_rest s left p ++ flat_map (package_stops s) ps
 
-abbrev pub request_rest : Proposal → RequestLeft → List Stop
+abbrev pub request_rest : Proposal → RequestInstancesLeft → List Stop
 request_rest s left = map stop_at (request_left_view s.problem.request left)
 
 abbrev pub unknown_rest : Proposal → ℕ → List Stop

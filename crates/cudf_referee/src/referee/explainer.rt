@@ -2,7 +2,7 @@
 ghost use Rattle.std.specs.Prelude.{◌≡◌};
 ghost use Rattle.cudf_referee.specs.Working.Firsts.{lesser_of};
 
-use crate::instance::{Instance, What};
+use crate::instance::{Instance, Requirement};
 use crate::referee::Referee;
 use crate::referee::needers::{Needers, first_held};
 use cudf_index::{Index, Providers};
@@ -71,7 +71,7 @@ impl<'r, 'p, 't> Explainer<'r, 'p, 't> {
         self.referee
     }
 
-    /// What the packages of its problem would help.
+    /// The remedies of the referee's problem.
     pub fn remedies(&self) -> &Remedies<'p, 't>
         ensures { result.now ≡ self.entry.now.problem }
     {
@@ -194,15 +194,16 @@ impl<'p, 't> Remedies<'p, 't> {
     }
 
     /// For an instance of depends, install or upgrade, the place (from 1) of the first package of the problem, installed
-    /// or not, that alone satisfies the conjunct or the entry. `None` where there is none, and for the other rules.
-    pub fn would_do(&self, instance: &Instance<'_>) -> Option<u64>
+    /// or not, that alone satisfies the clause or the entry. `None` where there is none, and for the other rules.
+    pub fn first_remedy(&self, instance: &Instance<'_>) -> Option<u64>
         ensures { result ≡ would_do self.now (instance_view instance.now) }
     {
         self.first_helping(Among::All, instance)
     }
 
-    /// The same of the packages that were installed.
-    pub fn was_installed(&self, instance: &Instance<'_>) -> Option<u64>
+    /// For an instance of depends, install or upgrade, the place (from 1) of the first package that was installed and alone
+    /// satisfies the clause or the entry. `None` where there is none, and for the other rules.
+    pub fn installed_remedy(&self, instance: &Instance<'_>) -> Option<u64>
         ensures { result ≡ was_installed self.now (instance_view instance.now) }
     {
         self.first_helping(Among::Initial, instance)
@@ -231,9 +232,9 @@ impl<'p, 't> Remedies<'p, 't> {
         ensures { result ≡ first_helping (searched self.now among) (instance_view instance.now).what }
     {
         match instance.what {
-            What::Needs(clause) => self.first_satisfying(among, clause),
-            What::Install(vpkg) => self.first_meeting(among, &vpkg),
-            What::Upgrade(vpkg) => self.first_meeting(among, &vpkg),
+            Requirement::Needs(clause) => self.first_satisfying(among, clause),
+            Requirement::Install(vpkg) => self.first_meeting(among, &vpkg),
+            Requirement::Upgrade(vpkg) => self.first_meeting(among, &vpkg),
             _ => None,
         }
     }

@@ -15,11 +15,11 @@ ghost use Rattle.cudf_referee.specs.Working.Places.{stanza_numbers, BeginsAt, Is
 ghost use Rattle.cudf_referee.specs.Working.Searches.{unknown_left};
 
 use crate::instance::Instance;
-use crate::left::{Candidate, Left, RequestLeft};
+use crate::left::{Candidate, PackageInstancesLeft, RequestInstancesLeft};
 use crate::rules::{ProposalFacts, is_violated};
-use cudf_index::{Index, Metered, Steps};
+use cudf_index::{Index, MeteredIndex, Steps};
 use cudf_job::{Key, Part};
-use cudf_problem::{Package, Problem, Solution, Unknown};
+use cudf_problem::{InstalledPair, Package, Problem, Solution};
 use std::marker::Model;
 
 /// The walk over the violated instances, in key order. It holds none of them: each call of `next`
@@ -30,7 +30,7 @@ use std::marker::Model;
 pub struct Instances<'r, 'p, 't> {
     problem: &'p Problem<'t>,
     solution: &'p Solution<'t>,
-    now: Metered<'r, 'p, 't>,
+    now: MeteredIndex<'r, 'p, 't>,
     /// For each entry of `upgrade`, the greatest number of its name before.
     before: &'r [Option<u64>],
     /// For each package, whether its name is to be kept, and the proposed status has one of it.
@@ -67,7 +67,7 @@ impl<'r, 'p, 't> Model for Instances<'r, 'p, 't> {
 }
 
 impl<'r, 'p, 't> Instances<'r, 'p, 't> {
-    /// All of them.
+    /// The walk over all violated instances, from the first on.
     pub(crate) fn new(
         problem: &'p Problem<'t>,
         solution: &'p Solution<'t>,
@@ -92,7 +92,7 @@ impl<'r, 'p, 't> Instances<'r, 'p, 't> {
             cursor: Cursor {
                 packages: 0,
                 begun: None,
-                request: RequestLeft::of(problem.request()),
+                request: RequestInstancesLeft::of(problem.request()),
                 unknown: 0,
             },
             steps: Steps::new(),
@@ -139,8 +139,8 @@ impl<'r, 'p, 't> Instances<'r, 'p, 't> {
 struct Cursor<'t> {
     packages: usize,
     /// What is left of the next package, where it was begun.
-    begun: Option<Left<'t>>,
-    request: RequestLeft<'t>,
+    begun: Option<PackageInstancesLeft<'t>>,
+    request: RequestInstancesLeft<'t>,
     unknown: usize,
 }
 
@@ -154,7 +154,7 @@ impl<'r, 'p, 't> Instances<'r, 'p, 't> {
     ghost use Rattle.cudf_referee.specs.Violations.{package_instances};
     ghost use Rattle.cudf_referee.specs.Working.Places.{ahead, BeginsAt};
     ghost use Rattle.cudf_referee.specs.Working.Searches.{Comes, ComesTo, Searches, package_left, packages_rest, request_rest, unknown_rest, stops_from};
-    ghost use Rattle.cudf_referee.specs.Working.PackageLeft.{placed_view, Fits, left_in};
+    ghost use Rattle.cudf_referee.specs.Working.PackageInstancesLeft.{placed_view, Fits, left_in};
     ghost use Rattle.cudf_referee.specs.Working.Located.{IsLocated, IsStopLocated};
 
     /// The package after this many others, as it is judged.
@@ -201,7 +201,7 @@ impl<'r, 'p, 't> Instances<'r, 'p, 't> {
     fn search_package(
         &mut self,
         candidate: Candidate<'p, 't>,
-        left: &mut Left<'t>,
+        left: &mut PackageInstancesLeft<'t>,
     ) -> Option<Instance<'t>>
         requires { All (IsStopLocated self.old.judged) (package_left (placed_view candidate) left.old) }
         ensures searches { Searches self.old (package_left (placed_view candidate.entry) left.old) (option_map instance_view result) self.new }
@@ -242,7 +242,7 @@ impl<'r, 'p, 't> Instances<'r, 'p, 't> {
     }
 
     /// The first violated instance of the request, of those that are left.
-    fn search_request(&mut self, left: &mut RequestLeft<'t>) -> Option<Instance<'t>>
+    fn search_request(&mut self, left: &mut RequestInstancesLeft<'t>) -> Option<Instance<'t>>
         requires { All (IsStopLocated self.old.judged) (request_rest self.old.judged left.old) }
         ensures searches { Searches self.old (request_rest self.old.judged left.old) (option_map instance_view result) self.new }
         ensures comes { ComesTo (request_rest self.old.judged left.old) (option_map instance_view result) (request_rest self.old.judged left.new) }
@@ -298,27 +298,27 @@ impl<'r, 'p, 't> Instances<'r, 'p, 't> {
                 Cursor {
                     packages,
                     begun: self.behind_key(packages, key),
-                    request: RequestLeft::of(request),
+                    request: RequestInstancesLeft::of(request),
                     unknown,
                 }
             }
             Part::Request => Cursor {
                 packages: self.problem.packages().len(),
                 begun: None,
-                request: RequestLeft::behind(request, key),
+                request: RequestInstancesLeft::behind(request, key),
                 unknown,
             },
             Part::Solution => Cursor {
                 packages: self.problem.packages().len(),
                 begun: None,
-                request: RequestLeft::none(),
+                request: RequestInstancesLeft::none(),
                 unknown,
             },
         }
     }
 
     /// The instances of the package after this many others that come after a key.
-    fn behind_key(&self, index: usize, key: Key) -> Option<Left<'t>>
+    fn behind_key(&self, index: usize, key: Key) -> Option<PackageInstancesLeft<'t>>
         ensures { (p : PlainPackage) → slice_get self.entry.now.judged.problem.packages index ≡ Some p
             → filter (λ x. precedes (key_view key) x.key) (package_instances self.entry.now.judged (index + 1, p)) ≡ left_in self.entry.now.judged result (index + 1, p) }
     {
@@ -377,7 +377,11 @@ pub(crate) fn position_behind(found: Option<Instance<'_>>) -> Position
 
 /// The place of the first unknown stanza that comes after the key: for a key of the solution it
 /// is searched by halves, for others it is the first of all.
-pub(crate) fn first_unknown_behind(key: Key, unknown: &[Unknown<'_>], steps: &mut Steps) -> usize
+pub(crate) fn first_unknown_behind(
+    key: Key,
+    unknown: &[InstalledPair<'_>],
+    steps: &mut Steps,
+) -> usize
     requires { IsTrue (ascend_above 0 (map unknown_view unknown.now)) }
     ensures fits { IsTrue (is_fitting (key_view key)) }
     ensures place { BeginsAt (at_key (key_view key)) (map unknown_view unknown.now) result }
@@ -391,7 +395,7 @@ pub(crate) fn first_unknown_behind(key: Key, unknown: &[Unknown<'_>], steps: &mu
 }
 
 /// The place of the first stanza with a number above this one.
-fn first_above(number: u64, unknown: &[Unknown<'_>], steps: &mut Steps) -> usize
+fn first_above(number: u64, unknown: &[InstalledPair<'_>], steps: &mut Steps) -> usize
     requires { IsTrue (ascend_above 0 (map unknown_view unknown.now)) }
     ensures left { unknown_left number (map unknown_view unknown.now) ≡ drop result (map unknown_view unknown.now) }
     ensures within { result ≤ length unknown.now }
@@ -412,7 +416,7 @@ fn first_above(number: u64, unknown: &[Unknown<'_>], steps: &mut Steps) -> usize
 }
 
 /// The number of the stanza at a place, for one step.
-pub(crate) fn number_at(unknown: &[Unknown<'_>], place: usize, steps: &mut Steps) -> u64
+pub(crate) fn number_at(unknown: &[InstalledPair<'_>], place: usize, steps: &mut Steps) -> u64
     requires { place < length unknown.now }
     ensures value { (d : ℕ) → result ≡ slice_index_or (stanza_numbers (map unknown_view unknown.now)) place d }
     ensures price { steps.new ≡ steps.old + 1 }

@@ -90,7 +90,7 @@ impl<'i, 'p, 't> InstalledPackages<'i, 'p, 't> {
     }
 
     /// The place that was found, unless another package alone satisfies the clause too.
-    fn unless_other(&self, clause: Clause<'_>, found: u64) -> Option<u64>
+    fn check_unique(&self, clause: Clause<'_>, found: u64) -> Option<u64>
         ensures { result ≡ unless_other self.now (clause_view clause.entry) found }
     {
         match self.satisfying(clause, Some(found)) {
@@ -104,7 +104,7 @@ impl<'i, 'p, 't> InstalledPackages<'i, 'p, 't> {
         ensures { result ≡ only_satisfying self.now (clause_view clause.entry) }
     {
         match self.satisfying(clause, None) {
-            Some(found) => self.unless_other(clause, found),
+            Some(found) => self.check_unique(clause, found),
             None => None,
         }
     }
@@ -115,7 +115,7 @@ impl<'i, 'p, 't> InstalledPackages<'i, 'p, 't> {
         ensures { result ≡ list_any (is_only self.now place) (formula_view depends.entry) }
     {
         for clause in depends.clauses() {
-            if is_named(place, self.only_satisfying(clause)) {
+            if is_found(place, self.only_satisfying(clause)) {
                 return true;
             }
         }
@@ -131,7 +131,7 @@ impl<'i, 'p, 't> InstalledPackages<'i, 'p, 't> {
 }
 
 /// Whether the place is the one that was found.
-fn is_named(place: u64, found: Option<u64>) -> bool
+fn is_found(place: u64, found: Option<u64>) -> bool
     ensures { result ≡ is_named place found }
 {
     match found {
@@ -173,7 +173,7 @@ impl Needers {
         Ok(())
     }
 
-    /// The same, if there is one, and it is another package.
+    /// Adds that the package at `needer` needs the one at `needed`, unless this is `None` or the same package.
     fn add_other(&mut self, needer: u64, needed: Option<u64>) -> Result<(), AllocError>
         ensures { OnOk result ((place : ℕ) → kept_needer place self.new ≡ with_other needer needed place (kept_needer place self.old)) }
     {

@@ -6,7 +6,7 @@ ghost use Rattle.cudf_problem.specs.Statuses.{ascend_above};
 use super::error::ExampleError;
 use cudf_document::{Mode, Problem, Solution, proposed_of, solution_of};
 use cudf_referee::{
-    Aim, Criteria, Instance, Instances, Key, Referee, What, compare, read_criterion,
+    Aim, Criteria, Instance, Instances, Key, Referee, Requirement, compare, read_criterion,
 };
 use cudf_text::{Room, stanzas};
 use std::alloc::Global;
@@ -88,14 +88,14 @@ fn print_instance<W: Write>(instance: &Instance<'_>, out: &mut W) -> io::Result<
 /// Prints what an instance says is wrong.
 fn print_what<W: Write>(instance: &Instance<'_>, out: &mut W) -> io::Result<()> {
     match instance.what {
-        What::Needs(clause) => writeln!(out, " lacks {clause}"),
-        What::ConflictsWith(entry) => writeln!(out, " excludes {entry}"),
-        What::KeepVersion | What::KeepPackage => writeln!(out, " is gone"),
-        What::KeepFeature(entry) => writeln!(out, " gave {entry}, which is gone"),
-        What::Install(entry) => writeln!(out, " wants {entry}"),
-        What::Remove(entry) => writeln!(out, " wants no {entry}"),
-        What::Upgrade(entry) => writeln!(out, " wants a newer {entry}"),
-        What::Unknown => writeln!(out, " isn't there"),
+        Requirement::Needs(clause) => writeln!(out, " lacks {clause}"),
+        Requirement::ConflictsWith(entry) => writeln!(out, " excludes {entry}"),
+        Requirement::KeepVersion | Requirement::KeepPackage => writeln!(out, " is gone"),
+        Requirement::KeepFeature(entry) => writeln!(out, " gave {entry}, which is gone"),
+        Requirement::Install(entry) => writeln!(out, " wants {entry}"),
+        Requirement::Remove(entry) => writeln!(out, " wants no {entry}"),
+        Requirement::Upgrade(entry) => writeln!(out, " wants a newer {entry}"),
+        Requirement::Unknown => writeln!(out, " isn't there"),
     }
 }
 

@@ -1,7 +1,7 @@
 //! Calls that read a solution of a problem.
 use super::shown::{agreed, push_list};
 use cudf_document::{
-    Mode, Problem, Proposed, ReadError, Solution, Status, Unknown, proposed_of, read_solution,
+    Mode, Problem, Proposed, ReadError, Solution, Status, InstalledPair, proposed_of, read_solution,
     solution_of,
 };
 use cudf_text::{Room, is_fail, read, stanzas};
@@ -87,7 +87,7 @@ fn shown(
 }
 
 /// Adds an unknown stanza as `NUMBER line LINE: NAME VERSION`.
-fn push_unknown(out: &mut String, unknown: &Unknown<'_>) -> Result<(), AllocError> {
+fn push_unknown(out: &mut String, unknown: &InstalledPair<'_>) -> Result<(), AllocError> {
     write!(out, "{} line {}: ", unknown.stanza, unknown.line)?;
     write!(out, "{} {}", unknown.name, unknown.version)?;
     Ok(())

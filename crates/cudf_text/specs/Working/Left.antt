@@ -1,7 +1,7 @@
 -- What is left of a text while its stanzas are read.
 use Rattle.std.specs.Prelude.{ℕ, ◌+◌, ◌<◌, ◌^◌, List, [], ◌∷◌, length, map, filter, Option, Some, None}
 use Rattle.std.specs.List.{enumerate_from}
-use Rattle.cudf_text.specs.declared.cursor.Place.{Place}
+use Rattle.cudf_text.specs.declared.cursor.ReadPosition.{ReadPosition}
 use Rattle.cudf_text.specs.declared.cursor.Next.{Next}
 use Rattle.cudf_text.specs.declared.cursor.Next.TheVariants as next
 use Rattle.cudf_text.specs.declared.fault.Fault.{Fault}
@@ -19,7 +19,7 @@ left None ls = (stanzas_of (read_after blank (filter is_no_comment ls)), fault_a
 left (Some f) ls = ([], Some f)
 
 -- the stanzas that are left, the first fault and the number of all lines
-abbrev pub text_left : Place → TrackedText
+abbrev pub text_left : ReadPosition → TrackedText
 text_left c = record {
   stanzas = (left c.fault (numbered_from (c.lines + 1) c.rest.now)).0;
   fault = (left c.fault (numbered_from (c.lines + 1) c.rest.now)).1;
@@ -27,7 +27,7 @@ text_left c = record {
 }
 
 -- there are no more lines than a number holds
-abbrev pub IsCounted : Place → Type 0
+abbrev pub IsCounted : ReadPosition → Type 0
 IsCounted c = c.lines + length c.rest.now < 2 ^ 64
 
 -- what was left before this was read: one stanza more than is left now, or no stanza

@@ -16,6 +16,6 @@ pub returns : goal.returns
 returns c =
     let s = c.args.source.now in
     when c.push.result c.push.ensures
-    (missed_put s.problem.now c.args.place (clause_view c.args.clause.now) c.in_ok-all_satisfying_unless_at.field-0 s.all c.args.items.now c.push.new.self c.is_in.result c.deref.result.now c.deref-2.result.now s.every
-    c.if-branch.false c.in_ok-all_satisfying_unless_at.ensures.own c.is_in.ensures (c.deref.ensures.value ∙ c.in_ok-all_satisfying_unless_at.ensures.all c.if-branch.false)
+    (missed_put s.problem.now c.args.place (clause_view c.args.clause.now) c.in_ok-all_satisfying_unless_at.field-0 s.all c.args.items.now c.push.new.self c.positive_literal.result c.deref.result.now c.deref-2.result.now s.every
+    c.if-branch.false c.in_ok-all_satisfying_unless_at.ensures.own c.positive_literal.ensures (c.deref.ensures.value ∙ c.in_ok-all_satisfying_unless_at.ensures.all c.if-branch.false)
     (c.deref-2.ensures.value ∙ c.in_ok-add_places.ensures ∙ ap (λ ls. ls ++ map is_in c.deref.result.now) c.new-none.ensures.items))

@@ -4,5 +4,5 @@ use Rattle.cudf_better.proofs.network.put_one.Goals as goal
 
 pub returns : goal.returns
 returns c =
-    single_put c.args.definitions.now c.put.new.definitions c.end-variable.new.self (get_or c.args.formulas.now c.args.index []) c.end-variable.result c.push.new.self.items c.in_ok-put.ensures c.end-variable.ensures.next c.end-variable.ensures.variable
-    (c.in_ok-push.ensures.items ∙ (λ i. c.new-outputs.ensures.items i ++ c.end-variable.result ∷ []))
+    single_put c.args.definitions.now c.put.new.definitions c.finish_variable-variable.new.self (get_or c.args.formulas.now c.args.index []) c.finish_variable-variable.result c.push.new.self.items c.in_ok-put.ensures c.finish_variable-variable.ensures.next c.finish_variable-variable.ensures.variable
+    (c.in_ok-push.ensures.items ∙ (λ i. c.new-outputs.ensures.items i ++ c.finish_variable-variable.result ∷ []))

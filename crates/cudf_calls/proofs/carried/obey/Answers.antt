@@ -5,4 +5,4 @@ pub returns-in-Ok : goal.returns-in-Ok
 returns-in-Ok c = inl (c.in-Ok.order, c.in-Ok.ensures.asks, c.carry_out.ensures)
 
 pub returns-in-Err : goal.returns-in-Err
-returns-in-Err c = inr (c.in-Err.usage, c.in-Err.ensures.asks, c.explain.ensures)
+returns-in-Err c = inr (c.in-Err.usage, c.in-Err.ensures.asks, c.answer_usage.ensures)

@@ -4,8 +4,8 @@ use Rattle.cudf_calls.specs.Calls.{names_of}
 use Rattle.cudf_calls.proofs.CallLemmas.{names_all, names_front}
 use Rattle.cudf_calls.proofs.document.names_behind.Goals as goal
 
-pub returns-then-not-names_better-clause-names : goal.returns-then-not-names_better-clause-names
-returns-then-not-names_better-clause-names c =
+pub returns-then-not-has_better_than-clause-names : goal.returns-then-not-has_better_than-clause-names
+returns-then-not-has_better_than-clause-names c =
     let are : map (λ word. string_bytes word) c.add_names.new.line.items ≡ names_of c.args.documents.now = grind (arith, common_steps) in
     names_all c.args.words.now c.args.documents.now c.add_names.new.line.items are (grind (arith, common_steps))
 

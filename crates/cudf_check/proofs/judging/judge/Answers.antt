@@ -24,4 +24,4 @@ returns-in-Ok-clause-judged c =
     }
 
 pub returns-clause-fault : goal.returns-clause-fault
-returns-clause-fault c = c.said_fail.ensures.fault c.args.setting.mode c.args.problem.now.extra_names c.args.bytes.now c.in-Err.ensures.unjudged
+returns-clause-fault c = c.fail_or_error.ensures.fault c.args.setting.mode c.args.problem.now.extra_names c.args.bytes.now c.in-Err.ensures.unjudged

@@ -12,7 +12,7 @@ pub returns-in-Ok : goal.returns-in-Ok
 returns-in-Ok g c =
     let read = c.in-Ok.ensures in
     let answer_of = better_report plainly c.args.setting.mode (question_answer (question_view c.args.question)) c.args.solution.now in
-    Prints-as _ _ _ _ _ _ (λ k. faulty_or plainly of_problem (codes "problem") (sym read.sound k) (answer_of (read.problem k))) c.print_asked.ensures
+    Prints-as _ _ _ _ _ _ (λ k. faulty_or plainly of_problem (codes "problem") (sym read.sound k) (answer_of (read.problem k))) c.judge_for_better.ensures
 
 pub returns : goal.returns
 returns g c =

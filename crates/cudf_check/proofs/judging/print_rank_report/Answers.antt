@@ -16,7 +16,7 @@ returns-in-Ok g c =
     let style = ranking_style (names_given g.S.Source.state c.args.problem c.args.solutions.sources.now) in
     Prints-as _ _ _ _ _ _ (λ k. faulty_or style of_problem (codes "problem") (sym read.sound k)
     (solutions_report style c.args.aims.now c.args.setting.mode (read.problem k) (map (λ b. b.items) c.args.solutions.texts.now)))
-    (c.print_judged.ensures (option_map (λ n. n.now) c.args.problem.name))
+    (c.rank_solutions.ensures (option_map (λ n. n.now) c.args.problem.name))
 
 pub returns : goal.returns
 returns g c =

@@ -15,10 +15,10 @@ returns-in-Check g c =
     let texts = map (λ b. b.items) c.args.others.texts.now in
     let names = names_given g.S.Source.state c.args.first c.args.others.sources.now in
     let second = c.first.result in
-    Prints-as _ _ _ _ _ _ (c.parted.ensures (explains job) mode (found_text job)
+    Prints-as _ _ _ _ _ _ (c.split_inputs.ensures (explains job) mode (found_text job)
     ∙ first_style mode (explains job) (found_text job) (option_map (λ n. n.now) c.args.first.name) (names_in g.S.Source.state c.args.others.sources.now) input second (slice_get texts 0) c.first.ensures.bytes c.first.ensures.name
     ∙ pair_of job mode names input texts c.in-Check.is)
-    c.print_pair.ensures
+    c.judge_pair.ensures
 
 pub returns-in-CnfBetter : goal.returns-in-CnfBetter
 returns-in-CnfBetter g c =
@@ -48,4 +48,4 @@ returns-in-Refute g c =
     let names = names_given g.S.Source.state c.args.first c.args.others.sources.now in
     let texts = map (λ b. b.items) c.args.others.texts.now in
     Prints-as _ _ _ _ _ _ (refute_of c.in-Refute.explain c.args.job.now c.args.setting.mode names c.args.first.bytes.now texts c.in-Refute.is c.text-in-Refute.result.now c.text-in-Refute.ensures)
-    c.print_refuted.ensures
+    c.refute_problem.ensures

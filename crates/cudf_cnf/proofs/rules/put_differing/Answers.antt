@@ -37,8 +37,8 @@ returns-then-contains-clause-put c =
     ap (λ (ns : List ℕ). has ns place) (sym (c.deref.ensures.value ∙ c.in_ok-all_giving.ensures)) ∙ sym c.contains.ensures.value ∙ c.if-contains.true in
     let pairs = map (pair key place) (filter (λ (m : ℕ). nat_lt place m) c.all_giving-then-contains.new.places.items) in
     when c.put_later_out.result c.put_later_out.ensures.put
-    (λ (e : c.put_later_out.new.clauses.clauses ≡ c.push.new.self.clauses ++ pairs). e ∙ ap (λ (h : PlainKeyedClauses). h.clauses ++ pairs) c.in_ok-push.ensures.ok ∙ append_assoc held ((key, c.is_out.result ∷ []) ∷ []) pairs
-    ∙ ap (λ (l : Literal). held ++ ((key, l ∷ []) ∷ pairs)) c.is_out.ensures
+    (λ (e : c.put_later_out.new.clauses.clauses ≡ c.push.new.self.clauses ++ pairs). e ∙ ap (λ (h : PlainKeyedClauses). h.clauses ++ pairs) c.in_ok-push.ensures.ok ∙ append_assoc held ((key, c.negative_literal.result ∷ []) ∷ []) pairs
+    ∙ ap (λ (l : Literal). held ++ ((key, l ∷ []) ∷ pairs)) c.negative_literal.ensures
     ∙ ap (λ (ks : List Keyed). held ++ ks) (several_at all name place key c.in-Some.number c.in-Some.ensures.among c.all_giving-then-contains.new.places.items there c.in_ok-all_giving-2.ensures))
 
 pub returns-clause-put : goal.returns-clause-put

@@ -12,7 +12,7 @@ use Rattle.cudf_document.specs.Faults.{lesser, least, fault_if}
 use Rattle.cudf_problem.specs.Documents.{has_name, with_earlier, postmark, marks}
 use Rattle.cudf_document.specs.ProblemFaults.{misplaced_faults}
 use Rattle.cudf_document.specs.SolutionFaults.{value_faults, values_faults, undeclared_in_solution, solution_misplaces, solution_stanza_faults}
-use Rattle.cudf_document.specs.Working.Extras.{names_with}
+use Rattle.cudf_document.specs.Working.DeclaredNames.{names_with}
 use Rattle.cudf_document.specs.Working.Judging.{version_property}
 use Rattle.cudf_problem.proofs.ListLemmas.{is_none-find}
 use Rattle.cudf_document.proofs.ExtraLemmas.{nothing_undeclared}

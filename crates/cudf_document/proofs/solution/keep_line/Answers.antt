@@ -7,7 +7,7 @@ use Rattle.cudf_document.proofs.solution.keep_line.Goals as goal
 pub returns-in-Some : goal.returns-in-Some
 returns-in-Some c = λ before are.
     let lines = c.args.lines.now.items in
-    ap (set lines c.in-Some.index) c.first_of.ensures
+    ap (set lines c.in-Some.index) c.earlier_line.ensures
     ∙ ap (λ line. set lines c.in-Some.index (option_or line (Some c.args.stanza.now.line))) c.index.ensures
     ∙ lines_next c.index.result.now c.args.problem.now.packages before (stanza_view c.args.stanza.now) c.args.lines.now.items (Some c.in-Some.index) c.requires.distinct c.in-Some.ensures are
 

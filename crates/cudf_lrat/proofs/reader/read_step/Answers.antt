@@ -2,10 +2,10 @@ use Rattle.std.proofs.Common.{◌≡◌, Bor, List, MatchOption, Option, ℕ, sy
 use Rattle.cudf_lrat.proofs.CutLemmas.{step-goes_on}
 use Rattle.cudf_lrat.specs.Lines.{cut_at_zeros, words_of}
 use Rattle.cudf_lrat.specs.Working.Numbers.{HasNoZero, with_piece}
-use Rattle.cudf_lrat.specs.declared.reader.Signed.{Signed}
+use Rattle.cudf_lrat.specs.declared.reader.SignedNumber.{SignedNumber}
 use Rattle.cudf_lrat.proofs.reader.read_step.Goals as goal
 
-abbrev Reads : List ℕ → List Signed → Option (Bor (List ℕ)) → Type 0
+abbrev Reads : List ℕ → List SignedNumber → Option (Bor (List ℕ)) → Type 0
 Reads text numbers found = MatchOption found (HasNoZero (cut_at_zeros (words_of text))) (λ rest. cut_at_zeros (words_of text) ≡ with_piece numbers (cut_at_zeros (words_of rest.now)))
 
 pub returns-else-has_ended : goal.returns-else-has_ended

@@ -3,7 +3,7 @@ use Rattle.std.specs.Prelude.{All}
 use Rattle.std.proofs.lemmas.List.Elements.{All-map}
 use Rattle.cudf_problem.specs.declared.package.Package.{Package}
 use Rattle.cudf_problem.specs.declared.problem.Request.{Request}
-use Rattle.cudf_problem.specs.declared.solution.Unknown.{Unknown}
+use Rattle.cudf_problem.specs.declared.solution.InstalledPair.{InstalledPair}
 use Rattle.cudf_problem.specs.Statuses.{PlainUnknown, ascend_above}
 use Rattle.cudf_problem.specs.Promises.Views.{unknown_view, package_view, request_view}
 use Rattle.cudf_problem.specs.Universe.{PlainPackage, PlainRequest, PlainProblem}
@@ -31,11 +31,11 @@ numbered problem unknown packages request all asked stanzas proposed counted = r
   stanzas = stanzas;
 }
 
-pub number_stanzas-requires : goal.number_stanzas-requires
-number_stanzas-requires c = subst (λ (us : List Unknown). ascend_above 0 (map unknown_view us) ≡ true) (sym c.as_slice.ensures.value) c.requires
+pub do_stanza_numbers_fit-requires : goal.do_stanza_numbers_fit-requires
+do_stanza_numbers_fit-requires c = subst (λ (us : List InstalledPair). ascend_above 0 (map unknown_view us) ≡ true) (sym c.as_slice.ensures.value) c.requires
 
 pub returns : goal.returns
 returns c =
     numbered c.args.problem.now (map unknown_view c.args.solution.now.unknown.items) c.packages-packages.result.now c.request-request.result.now
     c.packages-packages.ensures.packages c.request-request.ensures
-    (subst (λ (us : List Unknown). All (λ u. u.stanza < 2 ^ 64) (map unknown_view us)) c.as_slice.ensures.value c.number_stanzas.ensures)
+    (subst (λ (us : List InstalledPair). All (λ u. u.stanza < 2 ^ 64) (map unknown_view us)) c.as_slice.ensures.value c.do_stanza_numbers_fit.ensures)

@@ -14,7 +14,7 @@ pub returns-then-self : goal.returns-then-self
 returns-then-self c =
     let f = c.self.inside in
     let inside : c.args.index < length f.items = omega (arith, c.requires, formulas_length f.is_true f.items, ap length c.self.view_is) in
-    c.in_ok-put_true.ensures
+    c.in_ok-define_true.ensures
     ∙ ap (with_terms c.args.definitions.now)
     (sym (ap (λ (fs : List Dnf). get_or fs c.args.index []) (sym c.self.view_is) ∙ formula_at true f.is_true f.items c.args.index c.some-some.result.now c.none-none.result.now c.if-self.true inside c.some-some.ensures c.none-none.ensures))
 
@@ -22,6 +22,6 @@ pub returns : goal.returns
 returns c =
     let f = c.self.inside in
     let inside : c.args.index < length f.items = omega (arith, c.requires, formulas_length f.is_true f.items, ap length c.self.view_is) in
-    c.in_ok-put_false.ensures
+    c.in_ok-define_false.ensures
     ∙ ap (with_terms c.args.definitions.now)
     (sym (ap (λ (fs : List Dnf). get_or fs c.args.index []) (sym c.self.view_is) ∙ formula_at false f.is_true f.items c.args.index c.some-some.result.now c.none-none.result.now c.if-self.false inside c.some-some.ensures c.none-none.ensures))

@@ -10,4 +10,4 @@ unfolding explained
 returns g c =
     let i = instance_view c.args.instance.now in
     let listed = listed_by (option_map origin_view c.args.listed.origin) c.args.listed.lines.now in
-    Says-as _ _ _ _ _ (ap (λ problem. help_of listed problem i) c.remedies.ensures) c.print_help.ensures ▸ c.print_status.ensures ▸ c.print_met.ensures
+    Says-as _ _ _ _ _ (ap (λ problem. help_of listed problem i) c.remedies.ensures) c.print_remedy.ensures ▸ c.print_status.ensures ▸ c.print_met.ensures

@@ -14,4 +14,4 @@ nothing_at place = by (place == 0)
     by false = refl
 
 pub returns : goal.returns
-returns g c = Says-as _ _ _ _ _ (λ k. help_of (λ place. nothing_at place k) c.args.remedies.now (instance_view c.args.instance.now)) c.print_help.ensures
+returns g c = Says-as _ _ _ _ _ (λ k. help_of (λ place. nothing_at place k) c.args.remedies.now (instance_view c.args.instance.now)) c.print_remedy.ensures

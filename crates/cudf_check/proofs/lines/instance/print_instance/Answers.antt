@@ -8,5 +8,5 @@ use Rattle.cudf_check.proofs.lines.instance.print_instance.Goals as goal
 pub returns : goal.returns
 returns g c =
     let i = instance_view c.args.instance.now in
-    c.print_before.ensures ▸ c.print_key.ensures ▸ c.print_subject.ensures ▸ c.print_numbered.ensures ▸ c.text.ensures
+    c.print_file_prefix.ensures ▸ c.print_key.ensures ▸ c.print_subject.ensures ▸ c.print_numbered.ensures ▸ c.text.ensures
     ▸ Says-as _ _ _ _ _ (ap (λ aspect. what_text i.what aspect (option_map (λ p. package_view p.now) c.args.met)) c.aspect.ensures) c.print_what.ensures

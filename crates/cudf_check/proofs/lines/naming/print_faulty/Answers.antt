@@ -13,4 +13,4 @@ returns g c =
     let origin = option_map origin_view c.args.document.origin in
     let f = c.args.fault in
     Says-as _ _ _ _ _ (fault_line (named_before origin f.line) c.args.document.whose.now (numbered origin f.line) (codes ": ") (fault_text f.kind) (detail_added origin (option_map detail_view c.args.detail)))
-    (c.print_before.ensures ▸ c.text.ensures ▸ c.print_fault.ensures ▸ c.text-2.ensures)
+    (c.print_file_prefix.ensures ▸ c.text.ensures ▸ c.print_fault.ensures ▸ c.text-2.ensures)

@@ -18,4 +18,4 @@ returns g c =
     let f = c.args.fault in
     subst (λ o. Says g.W.Sink.state c.args.paper.now c.text.new.self (faulty (named_style o) of_solution whose f).text) c.own_file-origin.ensures
     (Says-as _ _ _ _ _ (fault_line (named_before origin f.line) whose (numbered origin f.line) (codes ": ") (fault_text f.kind) (detail_added origin None))
-    (c.print_before.ensures ▸ c.print_whose.ensures ▸ c.print_fault.ensures ▸ c.text.ensures))
+    (c.print_file_prefix.ensures ▸ c.print_whose.ensures ▸ c.print_fault.ensures ▸ c.text.ensures))

@@ -23,8 +23,8 @@ put_conflict-requires-clause-place c =
     let i = instance_view c.args.instance.now in
     package_place c.args.self.now.problem.now i c.args.clauses.now.places (where_is c.args.self.now.problem.now i (conflicts_with (vpkg_view c.in-ConflictsWith.vpkg)) (ap what_view c.in-ConflictsWith.is) c.requires.at) c.requires.places c.args.self.now.few
 
-pub is_in-requires : goal.is_in-requires
-is_in-requires c =
+pub positive_literal-requires : goal.positive_literal-requires
+positive_literal-requires c =
     let i = instance_view c.args.instance.now in
     rw c.place_of.ensures (package_place c.args.self.now.problem.now i c.args.clauses.now.places (where_is c.args.self.now.problem.now i keep_version (ap what_view c.in-KeepVersion.is) c.requires.at) c.requires.places c.args.self.now.few).small
 
@@ -32,7 +32,7 @@ pub push-requires : goal.push-requires
 push-requires c =
     let i = instance_view c.args.instance.now in
     let place = part_place i.key.part in
-    subst (λ (l : Literal). All (IsWithin c.args.clauses.now.places) (l ∷ [])) (sym (c.is_in.ensures ∙ ap is_in c.place_of.ensures))
+    subst (λ (l : Literal). All (IsWithin c.args.clauses.now.places) (l ∷ [])) (sym (c.positive_literal.ensures ∙ ap is_in c.place_of.ensures))
     (one_in c.args.clauses.now.places place (package_place c.args.self.now.problem.now i c.args.clauses.now.places (where_is c.args.self.now.problem.now i keep_version (ap what_view c.in-KeepVersion.is) c.requires.at) c.requires.places c.args.self.now.few))
 
 pub put_upgrade-requires-clause-at : goal.put_upgrade-requires-clause-at
@@ -74,7 +74,7 @@ returns-in-Upgrade-clause-put c =
 pub returns-in-KeepVersion-clause-put : goal.returns-in-KeepVersion-clause-put
 returns-in-KeepVersion-clause-put c =
     arm c.push.result c.push.new.self.clauses c.args.clauses.now.clauses c.args.self.now.problem.now (instance_view c.args.instance.now) keep_version c.args.self.now.all (ap what_view c.in-KeepVersion.is) c.args.self.now.every
-    (when c.push.result c.push.ensures.ok (λ e. ap (λ (h : PlainKeyedClauses). h.clauses) e ∙ ap (λ (l : Literal). let k : Keyed = (key_view c.args.instance.now.key, l ∷ []) in c.args.clauses.now.clauses ++ k ∷ []) (c.is_in.ensures ∙ ap is_in c.place_of.ensures)))
+    (when c.push.result c.push.ensures.ok (λ e. ap (λ (h : PlainKeyedClauses). h.clauses) e ∙ ap (λ (l : Literal). let k : Keyed = (key_view c.args.instance.now.key, l ∷ []) in c.args.clauses.now.clauses ++ k ∷ []) (c.positive_literal.ensures ∙ ap is_in c.place_of.ensures)))
 
 pub returns-in-Unknown-clause-put : goal.returns-in-Unknown-clause-put
 returns-in-Unknown-clause-put c = absurd (where_is c.args.self.now.problem.now (instance_view c.args.instance.now) unknown (ap what_view c.in-Unknown.is) c.requires.at)

@@ -20,7 +20,7 @@ returns-in-Some c =
     let found : Some (found_view c.in-Some.found) ≡ found_in nothing_passed f.line text.stanzas =
     ap (option_map found_view) (sym c.in-Some.is) ∙ c.in_ok-found.ensures ∙ ap (λ t. found_in nothing_passed f.line t.stanzas) c.new.ensures in
     let whole = ap (option_and_then (found_detail f.kind f.line)) found ∙ found_fault text f (sym c.if-not-is_of_stanza.ensures) in
-    IfOk-weaker c.told.result _ _ (λ d is. is ∙ whole) c.told.ensures
+    IfOk-weaker c.stanza_fault_detail.result _ _ (λ d is. is ∙ whole) c.stanza_fault_detail.ensures
 
 pub returns-in-None : goal.returns-in-None
 returns-in-None c =

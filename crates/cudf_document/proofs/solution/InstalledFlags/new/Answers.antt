@@ -12,6 +12,6 @@ returns c =
     let len : length packages ≡ length (ids_of c.args.problem.now) =
     sym (length-map packages package_view) ∙ ap length c.packages.ensures.packages ∙ sym (length-map c.args.problem.now.packages package_id) in
     record {
-      flags_are = c.in_ok-no_flags.ensures ∙ ap (λ n. replicate n false) len ∙ none_flagged (ids_of c.args.problem.now);
+      flags_are = c.in_ok-unset_flags.ensures ∙ ap (λ n. replicate n false) len ∙ none_flagged (ids_of c.args.problem.now);
       unknown_are = ap (map unknown_view) c.new.ensures.items;
     }

@@ -18,7 +18,7 @@ returns-then-branch-clause-own c =
 pub returns-clause-own : goal.returns-clause-own
 returns-clause-own c =
     let test = meets_clause_alone (clause_view c.args.clause.now) in
-    c.contains.ensures.value ∙ ap (λ (ns : List ℕ). has ns c.args.own) c.deref.ensures.value ∙ c.make_unique.ensures.same c.args.own
+    c.contains.ensures.value ∙ ap (λ (ns : List ℕ). has ns c.args.own) c.deref.ensures.value ∙ c.sort_and_dedup.ensures.same c.args.own
     ∙ c.in_ok-put_answers.ensures c.args.own ∙ adds_else _ _ _ _ _ _ _ _ c.if-branch.false c.in_ok-put_or_ask.ensures c.args.own
     ∙ ap (λ b. b || passes_at test c.args.own c.args.self.now) (none_there _ _ c.args.self.now c.args.own c.clear.ensures.items c.new-questions.ensures.items)
     ∙ own_found test c.args.own c.args.self.now
@@ -26,6 +26,6 @@ returns-clause-own c =
 pub returns-clause-all : goal.returns-clause-all
 returns-clause-all c = λ _.
     let test = meets_clause_alone (clause_view c.args.clause.now) in
-    rising_where test (set.contains c.self.inside.status) c.args.self.now c.self.inside.problem.now.packages c.make_unique.new.places.items c.self.view_is c.make_unique.ensures.rises
-    (λ p. c.make_unique.ensures.same p ∙ c.in_ok-put_answers.ensures p ∙ adds_else _ _ _ _ _ _ _ _ c.if-branch.false c.in_ok-put_or_ask.ensures p
+    rising_where test (set.contains c.self.inside.status) c.args.self.now c.self.inside.problem.now.packages c.sort_and_dedup.new.places.items c.self.view_is c.sort_and_dedup.ensures.rises
+    (λ p. c.sort_and_dedup.ensures.same p ∙ c.in_ok-put_answers.ensures p ∙ adds_else _ _ _ _ _ _ _ _ c.if-branch.false c.in_ok-put_or_ask.ensures p
     ∙ ap (λ b. b || passes_at test p c.args.self.now) (none_there _ _ c.args.self.now p c.clear.ensures.items c.new-questions.ensures.items))

@@ -11,7 +11,7 @@ pub loop-atom-preserved : goal.loop-atom-preserved
 loop-atom-preserved c = λ place.
     let status = c.args.self.now in
     ap (λ b. b || passes_at (meets_clause_alone (atoms_view c.next.new.self)) place status)
-    (will_have_same _ _ c.put_or_ask_atom.new.questions.items status place (c.make_unique_if_long.ensures.same place))
+    (will_have_same _ _ c.put_or_ask_atom.new.questions.items status place (c.sort_and_dedup_if_long.ensures.same place))
     ∙ atom_added place status (will_have c.loop-atom.places.items c.loop-atom.questions.items status place) (will_have c.put_or_ask_atom.new.places.items c.put_or_ask_atom.new.questions.items status place)
     (atoms_view c.loop-atom.atom-iterator) (atoms_view c.next.new.self) (atom_view c.in-Some.atom) _
     (adds_else _ _ _ _ _ _ _ _ c.if-branch.false c.in_ok-put_or_ask_atom.ensures place) c.in-Some.ensures.steps (c.loop-atom.invariant place)

@@ -5,7 +5,7 @@ use Rattle.cudf_job.specs.KeyViews.{key_view}
 use Rattle.cudf_referee.specs.Promises.Views.{instance_view}
 use Rattle.cudf_referee.specs.Proposals.{everything}
 use Rattle.cudf_referee.specs.Violations.{package_instances}
-use Rattle.cudf_referee.specs.Working.PackageLeft.{placed_view}
+use Rattle.cudf_referee.specs.Working.PackageInstancesLeft.{placed_view}
 use Rattle.cudf_referee.proofs.FinderLemmas.{package-left, package-found}
 use Rattle.cudf_referee.proofs.FoundLemmas.{of-no-package}
 use Rattle.cudf_referee.proofs.instance.InstanceFinder.find_of_package.Goals as goal

@@ -2,7 +2,7 @@ use Rattle.std.proofs.Common.{sym, ap, ◌∙◌, subst}
 use Rattle.cudf_problem.specs.Universe.{PlainProblem, PlainRequest}
 use Rattle.cudf_job.specs.KeyViews.{key_view}
 use Rattle.cudf_referee.specs.Violations.{request_instances}
-use Rattle.cudf_referee.specs.Working.RequestLeft.{request_left_view}
+use Rattle.cudf_referee.specs.Working.RequestInstancesLeft.{request_left_view}
 use Rattle.cudf_referee.specs.Working.Sought.{IsRest}
 use Rattle.cudf_referee.proofs.FoundLemmas.{of-request}
 use Rattle.cudf_referee.proofs.instance.InstanceFinder.find_of_request.Goals as goal

@@ -2,7 +2,7 @@ use Rattle.std.proofs.Common.{[], ◌∷◌, sym, ◌∙◌}
 use Rattle.cudf_job.specs.KeyViews.{key_view}
 use Rattle.cudf_referee.specs.Proposals.{everything}
 use Rattle.cudf_referee.specs.Violations.{package_instances}
-use Rattle.cudf_referee.specs.Working.PackageLeft.{placed_view, left_view}
+use Rattle.cudf_referee.specs.Working.PackageInstancesLeft.{placed_view, left_view}
 use Rattle.cudf_referee.proofs.AscentLemmas.{climbing_ascends, instances_climb}
 use Rattle.cudf_referee.proofs.FinderLemmas.{kept-package}
 use Rattle.cudf_referee.proofs.SoughtLemmas.{rest-all, rest-same, rest-climbing}

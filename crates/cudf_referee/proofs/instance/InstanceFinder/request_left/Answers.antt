@@ -2,7 +2,7 @@ use Rattle.std.proofs.Common.{◌≡◌, [], ◌∷◌, ap, sym, ◌∙◌, subs
 use Rattle.cudf_problem.specs.Universe.{PlainProblem, PlainRequest}
 use Rattle.cudf_job.specs.KeyViews.{key_view}
 use Rattle.cudf_referee.specs.Violations.{request_instances}
-use Rattle.cudf_referee.specs.Working.RequestLeft.{request_left_view}
+use Rattle.cudf_referee.specs.Working.RequestInstancesLeft.{request_left_view}
 use Rattle.cudf_referee.proofs.AscentLemmas.{climbing_ascends, request_climbs}
 use Rattle.cudf_referee.proofs.FinderLemmas.{kept-request}
 use Rattle.cudf_referee.proofs.SoughtLemmas.{rest-all, rest-same, rest-climbing}

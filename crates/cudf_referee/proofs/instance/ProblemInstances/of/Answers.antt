@@ -2,7 +2,7 @@ use Rattle.std.proofs.Common.{◌≡◌, subst}
 use Rattle.cudf_problem.specs.Universe.{PlainRequest}
 use Rattle.cudf_referee.specs.Promises.ProblemInstances.{instances_left}
 use Rattle.cudf_referee.specs.Violations.{request_instances}
-use Rattle.cudf_referee.specs.Working.RequestLeft.{request_left_view}
+use Rattle.cudf_referee.specs.Working.RequestInstancesLeft.{request_left_view}
 use Rattle.cudf_referee.proofs.ProblemLemmas.{from-start}
 use Rattle.cudf_referee.proofs.instance.ProblemInstances.of.Goals as goal
 

@@ -5,8 +5,8 @@ use Rattle.cudf_problem.specs.Promises.Views.{package_view}
 use Rattle.cudf_problem.specs.Universe.{PlainRequest}
 use Rattle.cudf_referee.specs.Promises.ProblemInstances.{instances_left}
 use Rattle.cudf_referee.specs.Promises.Views.{instance_view}
-use Rattle.cudf_referee.specs.Working.PackageLeft.{placed_view, left_view}
-use Rattle.cudf_referee.specs.Working.RequestLeft.{request_left_view}
+use Rattle.cudf_referee.specs.Working.PackageInstancesLeft.{placed_view, left_view}
+use Rattle.cudf_referee.specs.Working.RequestInstancesLeft.{request_left_view}
 use Rattle.cudf_referee.proofs.ProblemLemmas.{from-found, from-passed, from-request, progress}
 use Rattle.cudf_referee.proofs.SearchLemmas.{nothing-next}
 use Rattle.cudf_referee.proofs.instance.ProblemInstancesIterator.next.Goals as goal

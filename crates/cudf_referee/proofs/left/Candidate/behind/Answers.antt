@@ -1,7 +1,7 @@
 use Rattle.std.proofs.Common.{◌∷◌, [], sym}
 use Rattle.cudf_job.specs.KeyViews.{key_view}
 use Rattle.cudf_referee.specs.Violations.{package_instances}
-use Rattle.cudf_referee.specs.Working.PackageLeft.{placed_view}
+use Rattle.cudf_referee.specs.Working.PackageInstancesLeft.{placed_view}
 use Rattle.cudf_referee.proofs.AscentLemmas.{climbing_ascends, instances_climb}
 use Rattle.cudf_referee.proofs.SoughtLemmas.{rest-all, rest-same}
 use Rattle.cudf_referee.proofs.left.Candidate.behind.Goals as goal

@@ -1,7 +1,7 @@
 use Rattle.std.proofs.Common.{None, refl, sym, ◌∙◌, subst}
 use Rattle.cudf_job.specs.KeyViews.{key_view}
 use Rattle.cudf_referee.specs.Promises.Views.{instance_view}
-use Rattle.cudf_referee.specs.Working.PackageLeft.{placed_view, left_view}
+use Rattle.cudf_referee.specs.Working.PackageInstancesLeft.{placed_view, left_view}
 use Rattle.cudf_referee.specs.Working.Sought.{Seeks}
 use Rattle.cudf_referee.proofs.SearchLemmas.{nothing-next}
 use Rattle.cudf_referee.proofs.SoughtLemmas.{rest-same, rest-on, seeks-past, seeks-found, seeks-end}

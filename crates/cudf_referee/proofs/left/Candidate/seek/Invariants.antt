@@ -1,7 +1,7 @@
 use Rattle.std.proofs.Common.{◌≡◌, List, length}
 use Rattle.cudf_job.specs.KeyViews.{key_view}
 use Rattle.cudf_referee.specs.Instances.{PlainInstance}
-use Rattle.cudf_referee.specs.Working.PackageLeft.{placed_view, left_view}
+use Rattle.cudf_referee.specs.Working.PackageInstancesLeft.{placed_view, left_view}
 use Rattle.cudf_referee.specs.Working.Sought.{IsRest}
 use Rattle.cudf_referee.proofs.left.Candidate.seek.Given as goal
 

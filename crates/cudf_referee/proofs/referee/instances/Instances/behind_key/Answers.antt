@@ -8,7 +8,7 @@ use Rattle.cudf_job.specs.KeyViews.{key_view}
 use Rattle.cudf_referee.specs.Promises.Stops.{precedes}
 use Rattle.cudf_referee.specs.Violations.{package_instances}
 use Rattle.cudf_referee.specs.Promises.Walks.{Walking}
-use Rattle.cudf_referee.specs.Working.PackageLeft.{left_view}
+use Rattle.cudf_referee.specs.Working.PackageInstancesLeft.{left_view}
 use Rattle.cudf_referee.proofs.SearchLemmas.{item-some, item-none, seen-item, the-same}
 use Rattle.cudf_referee.proofs.referee.instances.Instances.behind_key.Goals as goal
 

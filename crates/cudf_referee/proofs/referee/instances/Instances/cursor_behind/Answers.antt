@@ -5,7 +5,7 @@ use Rattle.cudf_referee.specs.Instances.{PlainInstance}
 use Rattle.cudf_referee.specs.Promises.Stops.{precedes}
 use Rattle.cudf_referee.specs.Violations.{request_instances}
 use Rattle.cudf_referee.specs.Promises.Walks.{Walking}
-use Rattle.cudf_referee.specs.Working.RequestLeft.{request_left_view}
+use Rattle.cudf_referee.specs.Working.RequestInstancesLeft.{request_left_view}
 use Rattle.cudf_referee.proofs.CursorLemmas.{count-same, behind-package, behind-request, behind-solution}
 use Rattle.cudf_referee.proofs.referee.instances.Instances.cursor_behind.Goals as goal
 

@@ -6,7 +6,7 @@ use Rattle.cudf_problem.specs.Universe.{PlainRequest}
 use Rattle.cudf_index.specs.Satisfaction.{Placed}
 use Rattle.cudf_index.specs.Promises.Prices.{Metering}
 use Rattle.cudf_referee.specs.Violations.{request_instances}
-use Rattle.cudf_referee.specs.Working.RequestLeft.{request_left_view}
+use Rattle.cudf_referee.specs.Working.RequestInstancesLeft.{request_left_view}
 use Rattle.cudf_referee.specs.Working.Walkers.{put_forward, Agrees}
 use Rattle.cudf_referee.proofs.CursorLemmas.{at-start}
 use Rattle.cudf_referee.proofs.referee.instances.Instances.new.Goals as goal

@@ -3,7 +3,7 @@ use Rattle.cudf_referee.specs.Promises.Views.{instance_view}
 use Rattle.cudf_referee.specs.Proposals.{Proposal}
 use Rattle.std.specs.List.{enumerate_from}
 use Rattle.cudf_referee.specs.Working.Searches.{Comes, ComesTo, Searches, packages_rest, request_rest, unknown_rest}
-use Rattle.cudf_referee.specs.declared.left.RequestLeft.{RequestLeft}
+use Rattle.cudf_referee.specs.declared.left.RequestInstancesLeft.{RequestInstancesLeft}
 use Rattle.std.specs.Prelude.{All}
 use Rattle.cudf_referee.specs.Working.Located.{IsStopLocated}
 use Rattle.cudf_referee.proofs.LocatedLemmas.{all-left, all-right}
@@ -20,7 +20,7 @@ search_request-requires c =
     let cursor = c.args.cursor.now in
     let located = all-left (IsStopLocated s) (request_rest s cursor.request) _ (all-right (IsStopLocated s) (packages_rest s cursor.begun (drop cursor.packages (enumerate_from 1 s.problem.packages))) _ c.requires) in
     subst (λ (t : Proposal). All (IsStopLocated t) (request_rest t c.search_packages.new.cursor.request)) (sym c.in_default.ensures.searches.judged)
-    (subst (λ (r : RequestLeft). All (IsStopLocated s) (request_rest s r)) (sym c.search_packages.ensures.others.0) located)
+    (subst (λ (r : RequestInstancesLeft). All (IsStopLocated s) (request_rest s r)) (sym c.search_packages.ensures.others.0) located)
 
 pub returns-in-Some-clause-searches : goal.returns-in-Some-clause-searches
 returns-in-Some-clause-searches c =
@@ -37,12 +37,12 @@ returns-in-Some-search_request-clause-searches c =
     goes-found (part-on _ _ _ _ _ (λ s. request_rest s cursor.request) _
     (part-on _ _ _ _ _ (λ s. packages_rest s cursor.begun (drop cursor.packages (enumerate_from 1 s.problem.packages))) _
     (goes-start c.args.self.now _) c.in_default.ensures.searches)
-    (subst (λ (r : RequestLeft). Searches c.search_packages.new.self (request_rest c.search_packages.new.self.judged r) (Some (instance_view c.in-Some-search_request.instance)) c.search_request.new.self) c.search_packages.ensures.others.0 c.in-Some-search_request.ensures.searches))
+    (subst (λ (r : RequestInstancesLeft). Searches c.search_packages.new.self (request_rest c.search_packages.new.self.judged r) (Some (instance_view c.in-Some-search_request.instance)) c.search_request.new.self) c.search_packages.ensures.others.0 c.in-Some-search_request.ensures.searches))
 
 pub returns-in-Some-search_request-clause-comes : goal.returns-in-Some-search_request-clause-comes
 returns-in-Some-search_request-clause-comes c =
     in-request c.args.self.now.judged c.args.cursor.now (record c.search_packages.new.cursor { request = c.search_request.new.left }) _ c.in_default.ensures.comes c.search_packages.ensures.others.1
-    (subst (λ (r : RequestLeft). Comes (request_rest c.args.self.now.judged r) (instance_view c.in-Some-search_request.instance) (request_rest c.args.self.now.judged c.search_request.new.left)) c.search_packages.ensures.others.0
+    (subst (λ (r : RequestInstancesLeft). Comes (request_rest c.args.self.now.judged r) (instance_view c.in-Some-search_request.instance) (request_rest c.args.self.now.judged c.search_request.new.left)) c.search_packages.ensures.others.0
     (subst (λ (s : Proposal). Comes (request_rest s c.search_packages.new.cursor.request) (instance_view c.in-Some-search_request.instance) (request_rest s c.search_request.new.left)) c.in_default.ensures.searches.judged c.in-Some-search_request.ensures.comes))
 
 pub returns-clause-searches : goal.returns-clause-searches
@@ -53,7 +53,7 @@ returns-clause-searches c =
     (part-on _ _ _ _ _ (λ s. request_rest s cursor.request) _
     (part-on _ _ _ _ _ (λ s. packages_rest s cursor.begun (drop cursor.packages (enumerate_from 1 s.problem.packages))) _
     (goes-start c.args.self.now _) c.in_default.ensures.searches)
-    (subst (λ (r : RequestLeft). Searches c.search_packages.new.self (request_rest c.search_packages.new.self.judged r) None c.search_request.new.self) others.0 c.in_default-search_request.ensures.searches))
+    (subst (λ (r : RequestInstancesLeft). Searches c.search_packages.new.self (request_rest c.search_packages.new.self.judged r) None c.search_request.new.self) others.0 c.in_default-search_request.ensures.searches))
     (subst (λ (n : ℕ). Searches c.search_request.new.self (unknown_rest c.search_request.new.self.judged n) (option_map instance_view c.search_unknown.result) c.search_unknown.new.self) others.1 c.search_unknown.ensures.searches)
 
 pub returns-clause-comes : goal.returns-clause-comes

@@ -3,7 +3,7 @@ use Rattle.cudf_referee.specs.Proposals.{Proposal}
 use Rattle.cudf_referee.specs.Instances.{PlainInstance}
 use Rattle.cudf_referee.specs.Promises.Stops.{stop_at, package_end}
 use Rattle.cudf_referee.specs.Promises.Views.{instance_view}
-use Rattle.cudf_referee.specs.Working.PackageLeft.{placed_view, left_view}
+use Rattle.cudf_referee.specs.Working.PackageInstancesLeft.{placed_view, left_view}
 use Rattle.cudf_referee.specs.Working.Located.{IsLocated, IsStopLocated}
 use Rattle.cudf_referee.proofs.ComesLemmas.{tail-start, tail-on, tail-comes}
 use Rattle.cudf_referee.proofs.SearchLemmas.{goes-start, part-last, instances-more, instances-found, instances-end, nothing-next}

@@ -1,6 +1,6 @@
 use Rattle.std.proofs.Common.{None, length}
 use Rattle.cudf_referee.specs.Working.Searches.{Goes, package_left}
-use Rattle.cudf_referee.specs.Working.PackageLeft.{placed_view, left_view}
+use Rattle.cudf_referee.specs.Working.PackageInstancesLeft.{placed_view, left_view}
 use Rattle.cudf_referee.proofs.ComesLemmas.{IsTail}
 use Rattle.cudf_referee.proofs.referee.instances.Instances.search_package.Given as goal
 

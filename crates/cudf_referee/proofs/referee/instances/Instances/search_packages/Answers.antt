@@ -7,7 +7,7 @@ use Rattle.cudf_referee.specs.Promises.Views.{instance_view}
 use Rattle.cudf_referee.specs.Promises.Walks.{Walking}
 use Rattle.cudf_referee.specs.Proposals.{Proposal}
 use Rattle.cudf_referee.specs.Working.Searches.{package_rest}
-use Rattle.cudf_referee.specs.Working.PackageLeft.{placed_view, left_in, left_view}
+use Rattle.cudf_referee.specs.Working.PackageInstancesLeft.{placed_view, left_in, left_view}
 use Rattle.std.specs.Prelude.{All}
 use Rattle.std.proofs.lemmas.List.Elements.{All-same}
 use Rattle.cudf_referee.specs.Working.Located.{IsStopLocated}

@@ -5,7 +5,7 @@ use Rattle.cudf_referee.specs.Promises.Stops.{stop_at}
 use Rattle.cudf_referee.specs.Promises.Views.{instance_view}
 use Rattle.cudf_referee.specs.Promises.Walks.{Walking}
 use Rattle.cudf_referee.specs.Proposals.{Proposal}
-use Rattle.cudf_referee.specs.Working.RequestLeft.{request_left_view}
+use Rattle.cudf_referee.specs.Working.RequestInstancesLeft.{request_left_view}
 use Rattle.cudf_referee.specs.Working.Located.{IsLocated, IsStopLocated}
 use Rattle.cudf_referee.proofs.ComesLemmas.{tail-start, tail-on, tail-comes}
 use Rattle.cudf_referee.proofs.SearchLemmas.{goes-start, instances-more, instances-found, instances-end, nothing-next, nothing-left}

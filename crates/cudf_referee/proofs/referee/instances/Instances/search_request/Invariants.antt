@@ -1,5 +1,5 @@
 use Rattle.std.proofs.Common.{None, length}
-use Rattle.cudf_referee.specs.Working.RequestLeft.{request_left_view}
+use Rattle.cudf_referee.specs.Working.RequestInstancesLeft.{request_left_view}
 use Rattle.cudf_referee.specs.Working.Searches.{Goes, request_rest}
 use Rattle.cudf_referee.proofs.ComesLemmas.{IsTail}
 use Rattle.cudf_referee.proofs.referee.instances.Instances.search_request.Given as goal
