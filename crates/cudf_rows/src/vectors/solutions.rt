@@ -1,8 +1,8 @@
 //! Calls that read a solution of a problem.
 use super::shown::{agreed, push_list};
 use cudf_document::{
-    Mode, Problem, Proposed, ReadError, Solution, Status, InstalledPair, proposed_of, read_solution,
-    solution_of,
+    InstalledPair, Mode, Problem, Proposed, ReadError, Solution, Status, proposed_of,
+    read_solution, solution_of,
 };
 use cudf_text::{Room, is_fail, read, stanzas};
 use std::alloc::{AllocError, Global};
