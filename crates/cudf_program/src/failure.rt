@@ -1,6 +1,6 @@
 //! What the program says, and its exit status, where there is no whole report.
 
-use crate::OpenedFile;
+use crate::OpenedInput;
 use crate::system::Reading;
 use cudf_check::{Outcome, RunError};
 use cudf_command_line::{FileName, UsageError};
@@ -104,9 +104,9 @@ pub(crate) struct LastInput<'w> {
 impl<'w> LastInput<'w> {
     /// The last of these inputs that was read, or else the first of all.
     pub(crate) fn of<F: Drop, S: Drop>(
-        problem: (FileName<'w>, OpenedFile<'_, F, S>),
+        problem: (FileName<'w>, OpenedInput<'_, F, S>),
         names: &[FileName<'w>],
-        others: Vec<OpenedFile<'_, F, S>>,
+        others: Vec<OpenedInput<'_, F, S>>,
     ) -> LastInput<'w> {
         let (name, reader) = problem;
         let mut last = LastInput {

@@ -113,14 +113,14 @@ fn carry_out<R: System + AllocGlobal, S: Read + Drop, W: Sink, E: Write>(
 }
 
 /// A reader of an input, with the name that lines of the report begin with, where they name files.
-pub(crate) type OpenedFile<'w, F, S> = Named<'w, Device<Input<F, S>>>;
+pub(crate) type OpenedInput<'w, F, S> = Named<'w, Device<Input<F, S>>>;
 
 /// An order on open files.
 #[derive(Drop)]
 struct Task<'w, F, S> {
     order: Order<'w>,
-    problem: OpenedFile<'w, F, S>,
-    others: Vec<OpenedFile<'w, F, S>>,
+    problem: OpenedInput<'w, F, S>,
+    others: Vec<OpenedInput<'w, F, S>>,
 }
 
 /// Opens the files of an order, that of the problem first, and then the others in order. Nothing is opened
@@ -172,7 +172,7 @@ fn open_each<'w, R: System + AllocGlobal, S: Read + Drop>(
     names_files: bool,
     names: &[FileName<'w>],
     standard: &mut Option<S>,
-) -> Result<Vec<OpenedFile<'w, R::File, S>>, Failure<'w>>
+) -> Result<Vec<OpenedInput<'w, R::File, S>>, Failure<'w>>
     requires { count_by is_standard names.now ≤ length (option_to_list standard.old) }
     ensures opened { MatchResult result
         (λ readers. AllZip (IsOpenedAs (R.opens rt.now) (option_map S.remaining standard.old) (left_of R.File.remaining S.remaining)) names.now readers.items)
@@ -195,7 +195,7 @@ fn open_named<'w, R: System, S: Read>(
     names_files: bool,
     name: FileName<'w>,
     standard: &mut Option<S>,
-) -> Result<OpenedFile<'w, R::File, S>, Failure<'w>>
+) -> Result<OpenedInput<'w, R::File, S>, Failure<'w>>
     requires { IsThere name standard.old }
     ensures opened { MatchResult result
         (IsOpenedAs (R.opens rt.now) (option_map S.remaining standard.old) (left_of R.File.remaining S.remaining) name.entry)
