@@ -220,6 +220,7 @@ impl<'p, 't> Index<'p, 't> {
     }
 
     /// `satisfies`, with its steps counted.
+    #[inline(always)]
     pub(crate) fn satisfies_counting(&self, vpkg: &Vpkg<'_>, steps: &mut Steps) -> bool
         ensures answer { result ≡ satisfies self.now (vpkg_view vpkg.now) }
         ensures price { steps.new ≤ steps.old + search_cost self.now vpkg.now.name.now }
